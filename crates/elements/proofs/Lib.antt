@@ -1,0 +1,11 @@
+pub mod Below
+pub mod Folds
+pub mod Inverse
+pub mod Laws257
+pub mod Least
+pub mod Mod
+pub mod Powers
+pub mod Ring257
+pub mod RingFacts
+pub mod Squares
+pub mod Tables

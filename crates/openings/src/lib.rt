@@ -1,0 +1,2 @@
+// Openings of committed tables: which values stand at a point.
+pub mod clear;
