@@ -57,7 +57,8 @@ fn write_byte(out: &mut String, byte: u8) -> Result<(), AllocError>
 }
 
 pub fn write_hex(out: &mut String, bytes: &[u8]) -> Result<(), AllocError>
-    ensures { λ r. ⌜ made r (λ _. Wrote (string-bytes (now (out .entry))) (string-bytes (now (out .exit))) (hexOf (now (bytes .entry))) ((length (now (bytes .entry)) ≡ 32 → commitmentOf (hexOf (now (bytes .entry))) ≡ Some (now (bytes .entry))))) ⌝ }
+    ensures { λ r. ⌜ made r (λ _. Wrote (string-bytes (now (out .entry))) (string-bytes (now (out .exit))) (hexOf (now (bytes .entry)))
+        ((length (now (bytes .entry)) ≡ 32 → commitmentOf (hexOf (now (bytes .entry))) ≡ Some (now (bytes .entry))))) ⌝ }
 {
     for byte in bytes {
         write_byte(out, *byte)?;

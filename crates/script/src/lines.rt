@@ -5,13 +5,9 @@ ghost use mathlib.Core.List.{map};
 ghost use lib.Chars.{codes};
 ghost use lib.Dec.{eqb};
 ghost use lib.ListN.{length};
-ghost use Rattle.std.specs.Options.{mapped};
-ghost use Rattle.std.specs.Results.{okPart};
 ghost use Rattle.openings.specs.Coefficients.{entryV, clearV};
-ghost use Rattle.script.specs.Hexadecimal.{commitmentOf};
-ghost use Rattle.script.specs.Numerals.{numberOf};
 ghost use Rattle.script.specs.Pieces.{seen};
-ghost use Rattle.script.specs.Rules.{word, bitOf, flagOf, smallOf, fieldNamed, fieldLine, clearLine, entryLine};
+ghost use Rattle.script.specs.Rules.{onOk, word, numberWord, commitmentWord, flagOf, smallOf, fieldLine, clearLine, entryLine};
 ghost use Rattle.script.specs.Values.{bytesOf};
 use crate::numbers::read_number;
 use crate::statement::FieldName;
@@ -41,7 +37,7 @@ pub fn has_words(words: &[&[u8]], count: usize) -> bool
 }
 
 pub fn number_word(word: &[u8]) -> Result<usize, What>
-    ensures { λ r. ⌜ okPart r ≡ numberOf (now (word .entry)) ⌝ }
+    ensures { λ r. ⌜ r ≡ numberWord (now (word .entry)) ⌝ }
 {
     match read_number(word) {
         Some(number) => Ok(number as usize),
@@ -50,7 +46,7 @@ pub fn number_word(word: &[u8]) -> Result<usize, What>
 }
 
 fn flag_word(word: &[u8]) -> Result<bool, What>
-    ensures { λ r. ⌜ okPart r ≡ flagOf (now (word .entry)) ⌝ }
+    ensures { λ r. ⌜ r ≡ flagOf (now (word .entry)) ⌝ }
 {
     match read_number(word) {
         Some(0) => Ok(false),
@@ -70,7 +66,7 @@ pub fn small_number(word: &[u8]) -> Option<u32>
 }
 
 pub fn commitment_word(word: &[u8]) -> Result<Commitment, What>
-    ensures { λ r. ⌜ mapped bytesOf (okPart r) ≡ commitmentOf (now (word .entry)) ⌝ }
+    ensures { λ r. ⌜ onOk bytesOf r ≡ commitmentWord (now (word .entry)) ⌝ }
 {
     match read_commitment(word) {
         Some(commitment) => Ok(commitment),
@@ -79,7 +75,7 @@ pub fn commitment_word(word: &[u8]) -> Result<Commitment, What>
 }
 
 pub fn read_field(words: &[&[u8]]) -> Result<FieldName, What>
-    ensures { λ r. ⌜ okPart r ≡ fieldLine (map seen (now (words .entry))) ⌝ }
+    ensures { λ r. ⌜ r ≡ fieldLine (map seen (now (words .entry))) ⌝ }
 {
     if !is(word_at(words, 0), "field") {
         return Err(What::FieldFirst);
@@ -94,7 +90,7 @@ pub fn read_field(words: &[&[u8]]) -> Result<FieldName, What>
 }
 
 pub fn read_clear(heap: Global, words: &[&[u8]]) -> Result<Clear, What>
-    ensures { λ r. ⌜ mapped clearV (okPart r) ≡ clearLine (map seen (now (words .entry))) ⌝ }
+    ensures { λ r. ⌜ onOk clearV r ≡ clearLine (map seen (now (words .entry))) ⌝ }
 {
     if !has_words(words, 4) {
         return Err(What::WordCount);
@@ -106,7 +102,7 @@ pub fn read_clear(heap: Global, words: &[&[u8]]) -> Result<Clear, What>
 }
 
 pub fn read_entry(words: &[&[u8]]) -> Result<ClearEntry, What>
-    ensures { λ r. ⌜ mapped entryV (okPart r) ≡ entryLine (map seen (now (words .entry))) ⌝ }
+    ensures { λ r. ⌜ onOk entryV r ≡ entryLine (map seen (now (words .entry))) ⌝ }
 {
     if !has_words(words, 6) {
         return Err(What::WordCount);

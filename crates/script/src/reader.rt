@@ -2,11 +2,10 @@
 ghost use mathlib.Core.Path.{_≡_};
 ghost use mathlib.Core.List.{map};
 ghost use lib.ListN.{drop};
-ghost use Rattle.std.specs.Options.{mapped};
 ghost use Rattle.openings.specs.Coefficients.{clearV, withEntry};
 ghost use Rattle.script.specs.Pieces.{seen};
 ghost use Rattle.script.specs.Reading.{LineRead};
-ghost use Rattle.script.specs.Rules.{openV, openLine, numbersLine, withNumbers, entryLine, blockLine, clearLineV, outerLine, outerV};
+ghost use Rattle.script.specs.Rules.{onOk, openV, openLine, numbersLine, withNumbers, entryLine, blockLine, clearLineV, outerLine, outerV};
 use crate::faults::LineErrorFromAlloc;
 use crate::faults::LineErrorFromRefused;
 use crate::faults::LineErrorFromWhat;
@@ -49,7 +48,7 @@ pub fn read_open<E: Field>(heap: Global, words: &[&[u8]]) -> Result<OpenLine<E>,
 }
 
 fn add_numbers(clear: &mut Clear, words: &[&[u8]]) -> Result<(), LineError>
-    ensures { λ r. ⌜ LineRead (mapped (withNumbers (clearV (now (clear .entry)))) (numbersLine (map seen (now (words .entry))))) (λ _. clearV (now (clear .exit))) r ⌝ }
+    ensures { λ r. ⌜ LineRead (onOk (withNumbers (clearV (now (clear .entry)))) (numbersLine (map seen (now (words .entry))))) (λ _. clearV (now (clear .exit))) r ⌝ }
 {
     for word in words {
         let Some(number) = small_number(word) else {
@@ -71,14 +70,14 @@ fn after_first<'a, 'b>(words: &'b [&'a [u8]]) -> &'b [&'a [u8]]
 }
 
 fn numbers_line(mut clear: Clear, words: &[&[u8]]) -> Result<Clear, LineError>
-    ensures { λ r. ⌜ LineRead (mapped (withNumbers (clearV clear)) (numbersLine (drop 1 (map seen (now (words .entry)))))) clearV r ⌝ }
+    ensures { λ r. ⌜ LineRead (onOk (withNumbers (clearV clear)) (numbersLine (drop 1 (map seen (now (words .entry)))))) clearV r ⌝ }
 {
     add_numbers(&mut clear, after_first(words))?;
     Ok(clear)
 }
 
 fn entry_line(mut clear: Clear, words: &[&[u8]]) -> Result<Clear, LineError>
-    ensures { λ r. ⌜ LineRead (mapped (withEntry (clearV clear)) (entryLine (map seen (now (words .entry))))) clearV r ⌝ }
+    ensures { λ r. ⌜ LineRead (onOk (withEntry (clearV clear)) (entryLine (map seen (now (words .entry))))) clearV r ⌝ }
 {
     let entry = read_entry(words)?;
     clear.add_entry(entry)?;

@@ -32,7 +32,8 @@ pub fn read_commitment(word: &[u8]) -> Option<Commitment>
 }
 
 pub fn write_commitment(out: &mut String, commitment: &Commitment) -> Result<(), AllocError>
-    ensures { λ r. ⌜ made r (λ _. Wrote (string-bytes (now (out .entry))) (string-bytes (now (out .exit))) (hexOf (now (commitment .entry) .bytes)) (commitmentOf (hexOf (now (commitment .entry) .bytes)) ≡ Some (now (commitment .entry) .bytes))) ⌝ }
+    ensures { λ r. ⌜ made r (λ _. Wrote (string-bytes (now (out .entry))) (string-bytes (now (out .exit))) (hexOf (now (commitment .entry) .bytes))
+        (commitmentOf (hexOf (now (commitment .entry) .bytes)) ≡ Some (now (commitment .entry) .bytes))) ⌝ }
 {
     write_hex(out, &commitment.bytes)?;
     Ok(())
@@ -116,7 +117,8 @@ fn write_commaed(heap: Global, out: &mut String, numbers: &[u32]) -> Result<(), 
 }
 
 pub fn write_element<E: Field>(heap: Global, out: &mut String, element: E) -> Result<(), AllocError>
-    ensures { λ r. ⌜ made r (λ _. Wrote (string-bytes (now (out .entry))) (string-bytes (now (out .exit))) (writtenElement (E·Field .kind) element) (elementOf (E·Field .kind) (writtenElement (E·Field .kind) element) ≡ Some (Some element))) ⌝ }
+    ensures { λ r. ⌜ made r (λ _. Wrote (string-bytes (now (out .entry))) (string-bytes (now (out .exit))) (writtenElement (E·Field .kind) element)
+        (elementOf (E·Field .kind) (writtenElement (E·Field .kind) element) ≡ Some (Some element))) ⌝ }
 {
     let coefficients = element.coefficients();
     write_commaed(heap, out, coefficients.as_slice())?;

@@ -2,13 +2,12 @@
 ghost use mathlib.Core.Path.{_≡_};
 ghost use mathlib.Core.List.{map};
 ghost use Rattle.std.specs.Of.Vec.{vec-items};
-ghost use Rattle.std.specs.Options.{mapped};
 ghost use Rattle.std.specs.declared.option.Option.the-variants.{Some, None};
 ghost use Rattle.openings.specs.Coefficients.{clearV};
 ghost use Rattle.std.specs.Vec.{made};
 ghost use Rattle.script.specs.Pieces.{seen, lineOf, linesOf, wordsOf};
 ghost use Rattle.script.specs.Reading.{Stepped, Ending, ScriptRead};
-ghost use Rattle.script.specs.Rules.{stateIn, stateV, outerLine, afterOuter, blockLine, afterClear, ruleOf};
+ghost use Rattle.script.specs.Rules.{onOk, stateIn, stateV, outerLine, afterOuter, blockLine, afterClear, ruleOf};
 use crate::faults::LineErrorFromAlloc;
 use crate::faults::LineErrorFromRefused;
 use crate::lines::read_field;
@@ -38,7 +37,10 @@ fn outer_step<E: Field>(
     words: &[&[u8]],
     statements: &mut Vec<Statement<E>>,
 ) -> Result<Progress, LineError>
-    ensures { λ r. ⌜ Stepped (mapped (afterOuter (E·Field .kind) (stateIn field scheme None (vec-items (now (statements .entry))))) (outerLine (E·Field .kind) scheme (map seen (now (words .entry))))) (vec-items (now (statements .entry))) (vec-items (now (statements .exit))) r ⌝ }
+    ensures { λ r. ⌜ Stepped
+        (onOk (afterOuter (E·Field .kind) (stateIn field scheme None (vec-items (now (statements .entry)))))
+        (outerLine (E·Field .kind) scheme (map seen (now (words .entry)))))
+        (vec-items (now (statements .entry))) (vec-items (now (statements .exit))) r ⌝ }
 {
     match outer_line::<E>(heap, scheme, words)? {
         OuterLine::BeginsClear(clear) => Ok(Progress {
@@ -64,7 +66,10 @@ fn clear_step<E: Field>(
     words: &[&[u8]],
     statements: &mut Vec<Statement<E>>,
 ) -> Result<Progress, LineError>
-    ensures { λ r. ⌜ Stepped (mapped (afterClear (E·Field .kind) (stateIn field scheme (Some (clearV clear)) (vec-items (now (statements .entry))))) (blockLine (clearV clear) (map seen (now (words .entry))))) (vec-items (now (statements .entry))) (vec-items (now (statements .exit))) r ⌝ }
+    ensures { λ r. ⌜ Stepped
+        (onOk (afterClear (E·Field .kind) (stateIn field scheme (Some (clearV clear)) (vec-items (now (statements .entry)))))
+        (blockLine (clearV clear) (map seen (now (words .entry)))))
+        (vec-items (now (statements .entry))) (vec-items (now (statements .exit))) r ⌝ }
 {
     match block_line(clear, words)? {
         ClearLine::GoesOn(clear) => Ok(Progress {
@@ -90,7 +95,9 @@ fn step<E: Field>(
     words: &[&[u8]],
     statements: &mut Vec<Statement<E>>,
 ) -> Result<Progress, LineError>
-    ensures { λ r. ⌜ Stepped (ruleOf (E·Field .kind) (stateV progress (vec-items (now (statements .entry)))) (map seen (now (words .entry)))) (vec-items (now (statements .entry))) (vec-items (now (statements .exit))) r ⌝ }
+    ensures { λ r. ⌜ Stepped
+        (ruleOf (E·Field .kind) (stateV progress (vec-items (now (statements .entry)))) (map seen (now (words .entry))))
+        (vec-items (now (statements .entry))) (vec-items (now (statements .exit))) r ⌝ }
 {
     if words.is_empty() {
         return Ok(progress);
@@ -122,7 +129,9 @@ fn take_line<E: Field>(
     line: &[u8],
     statements: &mut Vec<Statement<E>>,
 ) -> Result<Progress, LineError>
-    ensures { λ r. ⌜ Stepped (ruleOf (E·Field .kind) (stateV progress (vec-items (now (statements .entry)))) (wordsOf (now (line .entry)))) (vec-items (now (statements .entry))) (vec-items (now (statements .exit))) r ⌝ }
+    ensures { λ r. ⌜ Stepped
+        (ruleOf (E·Field .kind) (stateV progress (vec-items (now (statements .entry)))) (wordsOf (now (line .entry))))
+        (vec-items (now (statements .entry))) (vec-items (now (statements .exit))) r ⌝ }
 {
     let words = words(heap, line)?;
     step(heap, progress, words.as_slice(), statements)

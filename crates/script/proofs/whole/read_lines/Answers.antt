@@ -11,7 +11,7 @@ pub returns-in-Refused : need.returns-in-Refused
 returns-in-Refused g c =
     let said = vec-items (c .loop-i .statements) in
     let told = refused-told _ said (vec-items (c .take-line .last .statements)) _ _ (c .in-Refused .is) (c .in-Err .ensures tt) in
-    inl (line-refused (g .E·Field .kind) lineOf (c .args .lines .now) (c .loop-i .i) (stateV (c .loop-i .progress) said) (c .loop-i .inv) _ _ (c .loop-i-test .taken) (told .0) (ap (map statementV) (told .1)))
+    inl (line-refused (g .E·Field .kind) lineOf (c .args .lines .now) (c .loop-i .i) (stateV (c .loop-i .progress) said) (c .loop-i .inv) _ _ _ (c .loop-i-test .taken) (told .0) (ap (map statementV) (told .1)))
 
 pub loop-i-again : need.loop-i-again
 loop-i-again g c =

@@ -10,7 +10,7 @@ use Rattle.std.specs.Of.Vec.{vec-items}
 use Rattle.std.proofs.shelf.Lists.{length-map}
 use Rattle.openings.specs.Coefficients.{clearV}
 use Rattle.script.specs.Pieces.{seen}
-use Rattle.script.specs.Rules.{statementV}
+use Rattle.script.specs.Rules.{onOk, statementV}
 use Rattle.script.proofs.Stepping.{no-words, unnamed, between, within, stepped-by}
 use Rattle.script.proofs.whole.step.Needs as need
 
@@ -21,13 +21,23 @@ returns-then-is-empty g c =
 
 pub returns-in-Ok : need.returns-in-Ok
 returns-in-Ok g c =
-    ap (mapped (λ f. record { field = Some f; scheme = c .args .progress .scheme; block = mapped clearV (c .args .progress .block); statements = map statementV (vec-items (c .args .statements .now)) })) (c .in-Ok .ensures tt)
+    ap (onOk (λ f. record {
+      field = Some f;
+      scheme = c .args .progress .scheme;
+      block = mapped clearV (c .args .progress .block);
+      statements = map statementV (vec-items (c .args .statements .now));
+    })) (c .in-Ok .ensures tt)
     ∙ unnamed (g .E·Field .kind) (vec-items (c .args .statements .now)) (c .args .progress) (map seen (c .args .words .now))
     (omega (arith, length-map (c .args .words .now) seen, false-eqb _ 0 (c .if-is-empty .ensures tt))) (c .in-rest .is)
 
 pub returns-in-Err : need.returns-in-Err
 returns-in-Err g c = (
-  ap (mapped (λ f. record { field = Some f; scheme = c .args .progress .scheme; block = mapped clearV (c .args .progress .block); statements = map statementV (vec-items (c .args .statements .now)) })) (c .in-Err .ensures tt)
+  ap (onOk (λ f. record {
+    field = Some f;
+    scheme = c .args .progress .scheme;
+    block = mapped clearV (c .args .progress .block);
+    statements = map statementV (vec-items (c .args .statements .now));
+  })) (c .in-Err .ensures tt)
       ∙ unnamed (g .E·Field .kind) (vec-items (c .args .statements .now)) (c .args .progress) (map seen (c .args .words .now))
       (omega (arith, length-map (c .args .words .now) seen, false-eqb _ 0 (c .if-is-empty .ensures tt))) (c .in-rest .is),
   refl,
