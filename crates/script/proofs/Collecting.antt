@@ -14,7 +14,8 @@ use Rattle.script.specs.Pieces.{pieces, cutsAt}
 use Rattle.script.specs.Values.{consTo, allOf, coefficientsOf}
 use Rattle.script.specs.declared.text.Separator.the-variants.{Comma}
 
-twice : {Y : Type 0} (front : List Y) (y : Y) (o : Option (List Y)) → mapped (λ l. front ++ l) (mapped (λ l. y ∷ l) o) ≡ mapped (λ l. (front ++ (y ∷ [])) ++ l) o
+-- what is read behind a front, and one before it
+pub twice : {Y : Type 0} (front : List Y) (y : Y) (o : Option (List Y)) → mapped (λ l. front ++ l) (mapped (λ l. y ∷ l) o) ≡ mapped (λ l. (front ++ (y ∷ [])) ++ l) o
 twice front y None = refl
 twice front y (Some l) = ap Some (sym (append-assoc front (y ∷ []) l))
 

@@ -1,10 +1,9 @@
 -- Hexadecimal digits, two by two. Assumes nothing.
 use mathlib.Core.Path.{_≡_, refl, sym, ap, _∙_}
 use mathlib.Core.Bool.{Bool, true, false, cond, _&&_}
-use mathlib.Core.List.{List, [], _∷_, _++_, append-nil, append-assoc}
+use mathlib.Core.List.{List, [], _∷_, _++_, append-nil}
 use Prim.Native.Nat.{ℕ, zero, suc, _+_, _-_, _*_, _/_, _%_, _<_, _≤_}
 use native.Mathlib.Omega.{arith}
-use native.Mathlib.Nat.{sub-zero}
 use borrow.Author.Tests.{lt-ltb, le-leb, lt-leb}
 use lib.Dec.{leb, ltb}
 use lib.ListN.{length, getD, take, drop, set, replicate}
@@ -16,17 +15,19 @@ use Rattle.std.proofs.shelf.Lists.{drop-more, drop-all, take-more-set, take-app
 use Rattle.std.proofs.shelf.Text.{digitValue-digitChar}
 use Rattle.std.specs.declared.option.Option.{Option}
 use Rattle.std.specs.declared.option.Option.the-variants.{Some, None}
-use Rattle.script.specs.Hexadecimal.{pairOf, before, pairsOf, commitmentOf, hexByte, hexOf}
+use Rattle.script.proofs.Collecting.{twice}
+use Rattle.script.specs.Values.{consTo}
+use Rattle.script.specs.Hexadecimal.{pairOf, pairsOf, commitmentOf, hexByte, hexOf}
 
-before-none : (o : Option ℕ) → before o None ≡ None
-before-none None = refl
-before-none (Some b) = refl
+cons-none : (o : Option ℕ) → consTo o None ≡ None
+cons-none None = refl
+cons-none (Some b) = refl
 
 -- an odd number of digits writes no bytes
 odd-none : (w : List ℕ) → length w % 2 ≡ 1 → pairsOf w ≡ None
 odd-none [] h = absurd (omega arith)
 odd-none (x ∷ []) h = refl
-odd-none (x ∷ y ∷ rest) h = ap (before (pairOf x y)) (odd-none rest (omega arith)) ∙ before-none (pairOf x y)
+odd-none (x ∷ y ∷ rest) h = ap (consTo (pairOf x y)) (odd-none rest (omega arith)) ∙ cons-none (pairOf x y)
 
 padded : (b : Bool) (o : Option (List ℕ)) → o ≡ None → None ≡ cond b (mapped (λ bs. bs ++ replicate (32 - length bs) 0) o) None
 padded true o e = ap (mapped (λ bs. bs ++ replicate (32 - length bs) 0)) (sym e)
@@ -41,10 +42,6 @@ odd-refused w h = no-bytes w (odd-none w h)
 pub long-refused : (w : List ℕ) → 64 < length w → None ≡ commitmentOf w
 long-refused w h = ap (λ b. cond b (mapped (λ bs. bs ++ replicate (32 - length bs) 0) (pairsOf w)) None) (sym (lt-leb (length w) 64 h))
 
-twice : (front : List ℕ) (b : ℕ) (o : Option (List ℕ)) → mapped (λ bs. front ++ bs) (mapped (λ bs. b ∷ bs) o) ≡ mapped (λ bs. (front ++ (b ∷ [])) ++ bs) o
-twice front b None = refl
-twice front b (Some bs) = ap Some (sym (append-assoc front (b ∷ []) bs))
-
 -- where the loop over a word stands: the first i bytes are written, and zeros are behind them
 module _ (w bytes : List ℕ) (i : ℕ) (inv : mapped (λ bs. take i bytes ++ bs) (pairsOf (drop (2 * i) w)) ≡ pairsOf w) where
   two-on : 2 * i + 1 < length w → drop (2 * i) w ≡ getD w (2 * i) 0 ∷ getD w (2 * i + 1) 0 ∷ drop (2 * (i + 1)) w
@@ -54,14 +51,14 @@ module _ (w bytes : List ℕ) (i : ℕ) (inv : mapped (λ bs. take i bytes ++ bs
 
   pub pair-refused : 2 * i + 1 < length w → pairOf (getD w (2 * i) 0) (getD w (2 * i + 1) 0) ≡ None → None ≡ commitmentOf w
   pair-refused h e =
-      no-bytes w (sym inv ∙ ap (λ l. mapped (λ bs. take i bytes ++ bs) (pairsOf l)) (two-on h) ∙ ap (λ o. mapped (λ bs. take i bytes ++ bs) (before o (pairsOf (drop (2 * (i + 1)) w)))) e)
+      no-bytes w (sym inv ∙ ap (λ l. mapped (λ bs. take i bytes ++ bs) (pairsOf l)) (two-on h) ∙ ap (λ o. mapped (λ bs. take i bytes ++ bs) (consTo o (pairsOf (drop (2 * (i + 1)) w)))) e)
 
   pub pair-written : (b : ℕ) → i < length bytes → 2 * i + 1 < length w → pairOf (getD w (2 * i) 0) (getD w (2 * i + 1) 0) ≡ Some b
       → mapped (λ bs. take (i + 1) (set bytes i b) ++ bs) (pairsOf (drop (2 * (i + 1)) w)) ≡ pairsOf w
   pair-written b room h e =
       ap (λ f. mapped (λ bs. f ++ bs) (pairsOf (drop (2 * (i + 1)) w))) (take-more-set bytes i b room)
       ∙ sym (twice (take i bytes) b (pairsOf (drop (2 * (i + 1)) w)))
-      ∙ ap (λ o. mapped (λ bs. take i bytes ++ bs) (before o (pairsOf (drop (2 * (i + 1)) w)))) (sym e)
+      ∙ ap (λ o. mapped (λ bs. take i bytes ++ bs) (consTo o (pairsOf (drop (2 * (i + 1)) w)))) (sym e)
       ∙ ap (λ l. mapped (λ bs. take i bytes ++ bs) (pairsOf l)) (sym (two-on h)) ∙ inv
 
   pub all-written : length bytes ≡ 32 → length w ≤ 64 → length w ≡ 2 * i → drop i bytes ≡ replicate (32 - i) 0 → Some bytes ≡ commitmentOf w
@@ -88,7 +85,7 @@ pair-back b h =
 
 pairs-back : (bs : List ℕ) → All (λ b. b < 256) bs → pairsOf (hexOf bs) ≡ Some bs
 pairs-back [] h = refl
-pairs-back (b ∷ bs) h = ap (λ o. before o (pairsOf (hexOf bs))) (pair-back b (h .0)) ∙ ap (mapped (λ cs. b ∷ cs)) (pairs-back bs (h .1))
+pairs-back (b ∷ bs) h = ap (λ o. consTo o (pairsOf (hexOf bs))) (pair-back b (h .0)) ∙ ap (mapped (λ cs. b ∷ cs)) (pairs-back bs (h .1))
 
 length-hex : (bs : List ℕ) → length (hexOf bs) ≡ 2 * length bs
 length-hex [] = refl

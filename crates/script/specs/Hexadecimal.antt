@@ -9,6 +9,7 @@ use Rattle.std.specs.Options.{mapped}
 use Rattle.std.specs.Text.{digitValue, digitChar}
 use Rattle.std.specs.declared.option.Option.{Option}
 use Rattle.std.specs.declared.option.Option.the-variants.{Some, None}
+use Rattle.script.specs.Values.{consTo}
 
 -- a hexadecimal digit, of either case
 abbrev pub hexadecimal : ℕ → Bool
@@ -18,15 +19,11 @@ hexadecimal c = ltb (digitValue c) 16
 abbrev pub pairOf : ℕ → ℕ → Option ℕ
 pairOf x y = cond (hexadecimal x && hexadecimal y) (Some (digitValue x * 16 + digitValue y)) None
 
-abbrev pub before : Option ℕ → Option (List ℕ) → Option (List ℕ)
-before None rest = None
-before (Some b) rest = mapped (λ bs. b ∷ bs) rest
-
 -- the bytes that an even number of digits write
 abbrev pub pairsOf : List ℕ → Option (List ℕ)
 pairsOf [] = Some []
 pairsOf (x ∷ []) = None
-pairsOf (x ∷ y ∷ rest) = before (pairOf x y) (pairsOf rest)
+pairsOf (x ∷ y ∷ rest) = consTo (pairOf x y) (pairsOf rest)
 
 -- at most 32 bytes, filled up with zeros at the end
 abbrev pub commitmentOf : List ℕ → Option (List ℕ)

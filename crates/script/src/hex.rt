@@ -21,7 +21,7 @@ fn hex_pair(high: u8, low: u8) -> Option<u8>
 }
 
 // The bytes of a commitment: 64 hexadecimal digits, or a shorter even number of them and zeros behind.
-pub fn hex_bytes(word: &[u8]) -> Option<[u8; 32]>
+pub(crate) fn hex_bytes(word: &[u8]) -> Option<[u8; 32]>
     ensures { λ r. ⌜ r ≡ commitmentOf (now (word .entry)) ⌝ }
 {
     if word.len() > 64 || word.len() % 2 == 1 {
@@ -56,7 +56,7 @@ fn write_byte(out: &mut String, byte: u8) -> Result<(), AllocError>
     Ok(())
 }
 
-pub fn write_hex(out: &mut String, bytes: &[u8]) -> Result<(), AllocError>
+pub(crate) fn write_hex(out: &mut String, bytes: &[u8]) -> Result<(), AllocError>
     ensures { λ r. ⌜ made r (λ _. Wrote (string-bytes (now (out .entry))) (string-bytes (now (out .exit))) (hexOf (now (bytes .entry)))
         ((length (now (bytes .entry)) ≡ 32 → commitmentOf (hexOf (now (bytes .entry))) ≡ Some (now (bytes .entry))))) ⌝ }
 {

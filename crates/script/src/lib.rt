@@ -1,11 +1,11 @@
 // The text form of scripts: how it is read, and how answers are written.
-pub mod faults;
-pub mod hex;
-pub mod lines;
+mod faults;
+mod hex;
+mod lines;
 pub mod numbers;
-pub mod reader;
+mod reader;
 pub mod replies;
 pub mod statement;
-pub mod text;
+mod text;
 pub mod values;
 pub mod whole;

@@ -20,7 +20,7 @@ use openings::clear::ClearEntry;
 use std::alloc::Global;
 
 // The i-th word of a line, or an empty one.
-pub fn word_at<'a>(words: &[&'a [u8]], i: usize) -> &'a [u8]
+pub(crate) fn word_at<'a>(words: &[&'a [u8]], i: usize) -> &'a [u8]
     ensures { λ r. ⌜ now r ≡ word (map seen (now (words .entry))) i ⌝ }
 {
     if i < words.len() {
@@ -30,13 +30,13 @@ pub fn word_at<'a>(words: &[&'a [u8]], i: usize) -> &'a [u8]
 }
 
 // Whether a line has this many words.
-pub fn has_words(words: &[&[u8]], count: usize) -> bool
+pub(crate) fn has_words(words: &[&[u8]], count: usize) -> bool
     ensures { λ r. ⌜ r ≡ eqb (length (map seen (now (words .entry)))) count ⌝ }
 {
     words.len() == count
 }
 
-pub fn number_word(word: &[u8]) -> Result<usize, What>
+pub(crate) fn number_word(word: &[u8]) -> Result<usize, What>
     ensures { λ r. ⌜ r ≡ numberWord (now (word .entry)) ⌝ }
 {
     match read_number(word) {
@@ -56,7 +56,7 @@ fn flag_word(word: &[u8]) -> Result<bool, What>
 }
 
 // A number below 2^32.
-pub fn small_number(word: &[u8]) -> Option<u32>
+pub(crate) fn small_number(word: &[u8]) -> Option<u32>
     ensures { λ r. ⌜ r ≡ smallOf (now (word .entry)) ⌝ }
 {
     match read_number(word) {
@@ -65,7 +65,7 @@ pub fn small_number(word: &[u8]) -> Option<u32>
     }
 }
 
-pub fn commitment_word(word: &[u8]) -> Result<Commitment, What>
+pub(crate) fn commitment_word(word: &[u8]) -> Result<Commitment, What>
     ensures { λ r. ⌜ onOk bytesOf r ≡ commitmentWord (now (word .entry)) ⌝ }
 {
     match read_commitment(word) {
@@ -74,7 +74,7 @@ pub fn commitment_word(word: &[u8]) -> Result<Commitment, What>
     }
 }
 
-pub fn read_field(words: &[&[u8]]) -> Result<FieldName, What>
+pub(crate) fn read_field(words: &[&[u8]]) -> Result<FieldName, What>
     ensures { λ r. ⌜ r ≡ fieldLine (map seen (now (words .entry))) ⌝ }
 {
     if !is(word_at(words, 0), "field") {
@@ -89,7 +89,7 @@ pub fn read_field(words: &[&[u8]]) -> Result<FieldName, What>
     Err(What::FieldName)
 }
 
-pub fn read_clear(heap: Global, words: &[&[u8]]) -> Result<Clear, What>
+pub(crate) fn read_clear(heap: Global, words: &[&[u8]]) -> Result<Clear, What>
     ensures { λ r. ⌜ onOk clearV r ≡ clearLine (map seen (now (words .entry))) ⌝ }
 {
     if !has_words(words, 4) {
@@ -101,7 +101,7 @@ pub fn read_clear(heap: Global, words: &[&[u8]]) -> Result<Clear, What>
     Ok(Clear::new(heap, zk, smallest, largest))
 }
 
-pub fn read_entry(words: &[&[u8]]) -> Result<ClearEntry, What>
+pub(crate) fn read_entry(words: &[&[u8]]) -> Result<ClearEntry, What>
     ensures { λ r. ⌜ onOk entryV r ≡ entryLine (map seen (now (words .entry))) ⌝ }
 {
     if !has_words(words, 6) {

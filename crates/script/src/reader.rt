@@ -27,7 +27,7 @@ use elements::field::Field;
 use openings::clear::Clear;
 use std::alloc::Global;
 
-pub fn read_open<E: Field>(heap: Global, words: &[&[u8]]) -> Result<OpenLine<E>, LineError>
+pub(crate) fn read_open<E: Field>(heap: Global, words: &[&[u8]]) -> Result<OpenLine<E>, LineError>
     ensures { λ r. ⌜ LineRead (openLine (E·Field .kind) (map seen (now (words .entry)))) openV r ⌝ }
 {
     if !has_words(words, 5) {
@@ -85,7 +85,7 @@ fn entry_line(mut clear: Clear, words: &[&[u8]]) -> Result<Clear, LineError>
 }
 
 // A line of a clear block.
-pub fn block_line(clear: Clear, words: &[&[u8]]) -> Result<ClearLine, LineError>
+pub(crate) fn block_line(clear: Clear, words: &[&[u8]]) -> Result<ClearLine, LineError>
     ensures { λ r. ⌜ LineRead (blockLine (clearV clear) (map seen (now (words .entry)))) clearLineV r ⌝ }
 {
     if is(word_at(words, 0), "numbers") {
@@ -104,7 +104,7 @@ pub fn block_line(clear: Clear, words: &[&[u8]]) -> Result<ClearLine, LineError>
 }
 
 // A line between blocks.
-pub fn outer_line<E: Field>(
+pub(crate) fn outer_line<E: Field>(
     heap: Global,
     scheme: bool,
     words: &[&[u8]],

@@ -129,10 +129,7 @@ fn reply<E: Field>(
 }
 
 // The lines that answer a script's questions, in order, each asked of the scheme that stands.
-pub fn replies<E: Field>(
-    heap: Global,
-    statements: &[Statement<E>],
-) -> Result<Vec<String>, AllocError>
+fn replies<E: Field>(heap: Global, statements: &[Statement<E>]) -> Result<Vec<String>, AllocError>
     ensures { λ r. ⌜ made r (λ v. map string-bytes (vec-items v) ≡ repliesOf (E·Field .kind) None (map statementV (now (statements .entry)))) ⌝ }
 {
     let mut lines = Vec::new(heap);

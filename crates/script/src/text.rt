@@ -29,7 +29,11 @@ impl Separator {
 }
 
 // The parts of a text between separators, empty ones too.
-pub fn split<'a>(heap: Global, text: &'a [u8], at: Separator) -> Result<Vec<&'a [u8]>, AllocError>
+pub(crate) fn split<'a>(
+    heap: Global,
+    text: &'a [u8],
+    at: Separator,
+) -> Result<Vec<&'a [u8]>, AllocError>
     ensures { λ r. ⌜ made r (λ v. map seen (vec-items v) ≡ pieces (cutsAt at) (now (text .entry))) ⌝ }
 {
     let mut parts = Vec::new(heap);
@@ -57,7 +61,7 @@ fn without_comment(line: &[u8]) -> &[u8]
 }
 
 // The words of a line, with no comment.
-pub fn words<'a>(heap: Global, line: &'a [u8]) -> Result<Vec<&'a [u8]>, AllocError>
+pub(crate) fn words<'a>(heap: Global, line: &'a [u8]) -> Result<Vec<&'a [u8]>, AllocError>
     ensures { λ r. ⌜ made r (λ v. map seen (vec-items v) ≡ wordsOf (now (line .entry))) ⌝ }
 {
     let parts = split(heap, without_comment(line), Separator::Blank)?;
@@ -71,7 +75,7 @@ pub fn words<'a>(heap: Global, line: &'a [u8]) -> Result<Vec<&'a [u8]>, AllocErr
 }
 
 // Whether a word is this text.
-pub fn is(word: &[u8], text: &str) -> bool
+pub(crate) fn is(word: &[u8], text: &str) -> bool
     ensures { λ r. ⌜ r ≡ sameBytes (now (word .entry)) (now (text .entry)) ⌝ }
 {
     word == text.as_bytes()

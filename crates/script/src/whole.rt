@@ -153,7 +153,7 @@ fn unended(progress: &Progress, line: usize) -> Option<ScriptError>
 }
 
 // A script from its lines. Where it cannot be read on, what was said before stays.
-pub fn read_lines<E: Field>(heap: Global, lines: &[&[u8]]) -> Result<Script<E>, AllocError>
+fn read_lines<E: Field>(heap: Global, lines: &[&[u8]]) -> Result<Script<E>, AllocError>
     ensures { λ r. ⌜ made r (λ s. ScriptRead (E·Field .kind) (map lineOf (now (lines .entry))) (vec-items (s .statements)) (s .error)) ⌝ }
 {
     let mut statements = Vec::new(heap);
