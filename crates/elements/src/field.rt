@@ -1,3 +1,4 @@
+// What a field kind is.
 ghost use mathlib.Core.Path.{_≡_};
 ghost use Rattle.elements.specs.Kind.{Kind, Laws, less, pow, rootAt};
 ghost use Rattle.elements.specs.Faults.{Offered};

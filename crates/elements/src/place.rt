@@ -1,3 +1,4 @@
+// Places that hold an element.
 ghost use mathlib.Core.Path.{_≡_};
 ghost use Rattle.elements.specs.Faults.{Placed, refusal, elementFault};
 use crate::fault::ElementError;

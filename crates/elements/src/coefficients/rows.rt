@@ -1,3 +1,4 @@
+// How coefficients are made and read.
 ghost use mathlib.Core.Path.{_≡_};
 ghost use mathlib.Core.List.{[], _∷_};
 ghost use Rattle.elements.specs.Numbers.{numbersOf};

@@ -1,3 +1,4 @@
+// Faults as users know them: every fault tells its number, its word and its fields.
 ghost use mathlib.Core.Path.{_≡_};
 ghost use Rattle.std.specs.Options.{mapped};
 ghost use Rattle.std.specs.shelf.Maps.{nth};
