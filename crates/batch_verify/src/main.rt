@@ -1,4 +1,6 @@
 // Reads batch scripts and prints their answers.
+#![tactic(auto)]
+
 use anyhow::anyhow;
 use elements::f257::F257;
 use script::replies::{answer, error_text};

@@ -1,4 +1,6 @@
 // Sums, products and inverses of elements: reads a table of questions and prints each with its answer.
+#![tactic(auto)]
+
 use anyhow::anyhow;
 use elements::babybear::BabyBear;
 use elements::babybear::kind::x_times_x_cubed;

@@ -1,5 +1,5 @@
 -- The elements of 0 and 1. Assumes nothing.
-use Rattle.std.proofs.Common.{◌≡◌, ◌*◌, ◌%◌, sym, ap, ◌∙◌, mod-eq_of_lt, one-mul, arith}
+use Rattle.std.proofs.Common.{◌≡◌, ◌%◌, sym, ap, ◌∙◌, mod-eq_of_lt, one-mul, arith}
 use Rattle.elements.specs.Kind.{Kind, Laws}
 use Rattle.elements.specs.Operations.{operations}
 use Rattle.elements.specs.KindRing.{ring_of}

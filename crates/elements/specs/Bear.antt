@@ -1,5 +1,5 @@
 -- The kind BabyBear: four numbers modulo p, the coefficients of 1, x, x^2 and x^3, with x^4 = 11. Assumes nothing.
-use Rattle.std.specs.Prelude.{ℕ, ◌+◌, ◌-◌, ◌*◌, ◌/◌, ◌%◌, ◌^◌, Bool, ◌&&◌, List, [], ◌∷◌, ◌==◌, slice_index}
+use Rattle.std.specs.Prelude.{ℕ, ◌+◌, ◌-◌, ◌*◌, ◌/◌, ◌%◌, ◌^◌, Bool, ◌&&◌, [], ◌∷◌, ◌==◌, slice_index}
 use Rattle.std.proofs.Common.{mod-lt, lit<}
 use Rattle.elements.specs.Extension.{Four, mul4}
 use Rattle.elements.specs.Kind.{Kind}

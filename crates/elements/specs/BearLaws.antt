@@ -8,7 +8,7 @@ use Rattle.elements.specs.Operations.{Operations, CommutativeRing, operations}
 use Rattle.elements.specs.declared.babybear.BabyBear.{BabyBear}
 use Rattle.elements.specs.declared.babybear.BaseNumber.{BaseNumber}
 use Rattle.elements.specs.BearProduct.{bear_ring, joined, times_is}
-use Rattle.elements.specs.BearRing.{same, number, represents, of_value, base_ring, base_plus, base_times}
+use Rattle.elements.specs.BearRing.{same, number, represents, base_ring, base_plus, base_times}
 use Rattle.elements.specs.Below.{both_left, both_right}
 use Rattle.elements.specs.Digits.{low_digit, high_digit, digits_below}
 use Rattle.elements.specs.Folds.{evaluated_cons}
@@ -48,7 +48,7 @@ joined_ring = record {
   times_plus = λ a b c. ap joined (L.times_plus (coordinates a) (coordinates b) (coordinates c));
 }
 
-ring : CommutativeRing (operations babybear)
+pub ring : CommutativeRing (operations babybear)
 ring = subst (λ t. CommutativeRing (with_times t)) (sym times_path) joined_ring
 
 ranges : Ranges babybear

@@ -1,5 +1,5 @@
 -- The product of BabyBear is that of four coefficients over its base numbers; what its inverse is. Assumes nothing.
-use Rattle.std.specs.Prelude.{◌≡◌, ℕ, ◌+◌, ◌*◌, ◌≢◌, refl}
+use Rattle.std.specs.Prelude.{◌≡◌, ◌+◌, ◌*◌, ◌≢◌, refl}
 use Rattle.std.proofs.Common.{sym, ap, ◌∙◌}
 use Rattle.elements.specs.Bear.{of, base, times, numbers, coordinates, babybear}
 use Rattle.elements.specs.Extension.{Four, mul4}

@@ -1,6 +1,6 @@
 -- Numbers written with two digits to the base p, where the high one may itself be such a number. Assumes nothing.
 use Rattle.std.specs.Prelude.{◌≡◌, ℕ, suc, ◌+◌, ◌*◌, ◌/◌, ◌%◌, ◌<◌, ◌≤◌}
-use Rattle.std.proofs.Common.{sym, ap, ◌∙◌, mod-eq_of_lt, zero-add, mul-suc, mul-le-mul_left, arith}
+use Rattle.std.proofs.Common.{ap, ◌∙◌, mod-eq_of_lt, zero-add, mul-suc, mul-le-mul_left, arith}
 use Rattle.std.proofs.Math.Nat.{add-mul-mod_self_left, add-mul-div_left, div-eq_of_lt}
 
 module _ (p low high : ℕ) (h : low < p) where

@@ -1,5 +1,5 @@
 -- Four coefficients over a ring, with x^4 = w, form a ring; the norm tells which have an inverse. Assumes nothing.
-use Rattle.std.specs.Prelude.{◌≡◌, ℕ, T, List, [], ◌∷◌, refl}
+use Rattle.std.specs.Prelude.{◌≡◌, T, List, [], ◌∷◌}
 use Rattle.std.proofs.Common.{sym, ap, ◌∙◌}
 use Rattle.elements.specs.Extension.{Four, mul4}
 use Rattle.elements.specs.Operations.{Operations, CommutativeRing}

@@ -1,5 +1,5 @@
 -- What has an inverse, in any kind. Assumes nothing.
-use Rattle.std.specs.Prelude.{◌≡◌, ℕ, zero, suc, true, [], ◌∷◌, is_some, Some, None, Option, refl}
+use Rattle.std.specs.Prelude.{◌≡◌, ℕ, zero, suc, [], ◌∷◌, Some, None, Option, refl}
 use Rattle.std.proofs.Common.{sym, ap, ◌∙◌}
 use Rattle.elements.specs.Facts.{DividesPowers, DivisorInvertible, InversePresent, InverseUnique}
 use Rattle.elements.specs.Kind.{Kind, pow, less, Invertible, Inverse}

@@ -1,5 +1,5 @@
 -- The kind F257: whole numbers below 257. Assumes nothing.
-use Rattle.std.specs.Prelude.{ℕ, ◌+◌, ◌-◌, ◌*◌, ◌%◌, List, [], ◌∷◌, nat_eq, slice_index}
+use Rattle.std.specs.Prelude.{ℕ, ◌+◌, ◌-◌, ◌*◌, ◌%◌, [], ◌∷◌, nat_eq, slice_index}
 use Rattle.std.proofs.Common.{mod-lt, lit<}
 use Rattle.std.specs.Option.{option_map}
 use Rattle.elements.specs.Kind.{Kind}

@@ -55,3 +55,7 @@ module _ {R : Type 0} (k : Kind R) (l : CommutativeRing (operations k)) where
   pow_odd x n h =
       let e : suc (n / 2 + n / 2) ≡ n = omega arith in
       ap (k.times x) (pow_square x (n / 2)) ∙ ap (pow k x) e
+
+  -- a turn of repeated squaring, where the exponent is odd
+  pub turn_odd : (acc x : R) (n : ℕ) → n % 2 ≡ 1 → k.times (k.times acc x) (pow k (k.times x x) (n / 2)) ≡ k.times acc (pow k x n)
+  turn_odd acc x n h = l.times_assoc acc x (pow k (k.times x x) (n / 2)) ∙ ap (k.times acc) (pow_odd x n h)

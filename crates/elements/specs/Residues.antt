@@ -1,5 +1,5 @@
 -- Numbers modulo p: a type whose values are the numbers below p is a commutative ring. Assumes nothing.
-use Rattle.std.specs.Prelude.{◌≡◌, ℕ, ◌+◌, ◌-◌, ◌*◌, ◌%◌, ◌<◌, refl}
+use Rattle.std.specs.Prelude.{◌≡◌, ℕ, ◌+◌, ◌-◌, ◌*◌, ◌%◌, ◌<◌}
 use Rattle.std.proofs.Common.{ap, sym, ◌∙◌, mod-eq_of_lt, add_comm, add_assoc, mul_comm, mul_assoc, mul-add, mul-one, add-zero, arith}
 use Rattle.std.proofs.Math.Nat.{mod-mod, mod_self, zero-mod, mod-add-mod, add-mod-mod}
 use Rattle.elements.specs.Operations.{Operations, CommutativeRing}

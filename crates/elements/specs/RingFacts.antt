@@ -1,5 +1,5 @@
 -- What follows from the laws of a ring. Assumes nothing.
-use Rattle.std.specs.Prelude.{◌≡◌, refl}
+use Rattle.std.specs.Prelude.{◌≡◌}
 use Rattle.std.proofs.Common.{sym, ap, ◌∙◌}
 use Rattle.elements.specs.Operations.{Operations, CommutativeRing}
 

@@ -1,5 +1,7 @@
 // A commitment, of which nothing is known but its bytes.
-ghost use Rattle.std.specs.Prelude.{◌≡◌, Decides};
+ghost use Rattle.std.specs.Prelude.{◌≡◌, ◌==◌, Decides};
+ghost use Rattle.std.specs.Ordering.{on};
+ghost use Rattle.std.specs.Cmp.Lexicographic.{pointwise};
 ghost use Rattle.std.specs.Cmp.Rules.{comparing};
 ghost use Rattle.std.proofs.Common.{rules};
 
@@ -9,11 +11,14 @@ pub struct Commitment {
 }
 
 impl PartialEq for Commitment {
-    ghost equals = { λ a b r. Decides r (a.bytes ≡ b.bytes) };
+    ghost eq = { on (λ c. c.bytes) (pointwise ◌==◌) };
 
     ghost laws = { Prim.search (comparing, rules) };
 
-    fn eq(&self, other: &Commitment) -> bool {
+    fn eq(&self, other: &Commitment) -> bool
+        ensures same { result ≡ on (λ (c : Commitment). c.bytes) (pointwise ◌==◌) self.now other.now }
+        ensures decides { Decides result (self.now.bytes ≡ other.now.bytes) }
+    {
         self.bytes == other.bytes
     }
 }

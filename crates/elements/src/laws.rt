@@ -6,13 +6,13 @@ use crate::field::Field;
 
 // Theorems with no work to do: the contract is what is proved.
 pub fn consequences<E: Field>()
-    ensures units { EmbeddedUnits kind }
-    ensures powers { DividesPowers kind }
-    ensures divisor { DivisorInvertible kind }
-    ensures present { InversePresent kind }
-    ensures unique { InverseUnique kind }
-    ensures minus { MinusOne kind }
-    ensures two { TwoInvertible kind }
-    ensures order { RootPower kind }
-    ensures apart { RootsApart kind }
+    ensures units { EmbeddedUnits E.kind }
+    ensures powers { DividesPowers E.kind }
+    ensures divisor { DivisorInvertible E.kind }
+    ensures present { InversePresent E.kind }
+    ensures unique { InverseUnique E.kind }
+    ensures minus { MinusOne E.kind }
+    ensures two { TwoInvertible E.kind }
+    ensures order { RootPower E.kind }
+    ensures apart { RootsApart E.kind }
 {}

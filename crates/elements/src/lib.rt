@@ -1,4 +1,6 @@
 // Field kinds: their elements, what may be done with them, and the laws that hold of it.
+#![tactic(auto)]
+
 pub mod babybear;
 pub mod coefficients;
 pub mod commitment;

@@ -7,7 +7,7 @@ use crate::field::Field;
 
 // x to the power n, by repeated squaring.
 pub fn exp_u64<E: Field>(x: E, n: u64) -> E
-    ensures { result ≡ pow kind x n }
+    ensures { result ≡ pow E.kind x n }
 {
     let mut power = E::one();
     let mut base = x;
@@ -24,7 +24,7 @@ pub fn exp_u64<E: Field>(x: E, n: u64) -> E
 
 // acc·alpha + c over the values, first to last, from 0.
 pub fn folded<E: Field>(alpha: E, values: &[E]) -> E
-    ensures { result ≡ fold kind alpha kind.zero values.now }
+    ensures { result ≡ fold E.kind alpha E.kind.zero values.now }
 {
     let mut acc = E::zero();
     for c in values {
@@ -35,7 +35,7 @@ pub fn folded<E: Field>(alpha: E, values: &[E]) -> E
 
 // The polynomial with these coefficients, lowest first, at a point.
 pub fn horner<E: Field>(coefficients: &[E], point: E) -> E
-    ensures { result ≡ evaluated kind point coefficients.now }
+    ensures { result ≡ evaluated E.kind point coefficients.now }
 {
     let mut acc = E::zero();
     for c in coefficients.iter().rev() {
@@ -46,7 +46,7 @@ pub fn horner<E: Field>(coefficients: &[E], point: E) -> E
 
 // The same of coefficients that are numbers, read modulo p.
 pub fn horner_u32<E: Field>(coefficients: &[u32], point: E) -> E
-    ensures { result ≡ evaluated kind point (map kind.embed coefficients.now) }
+    ensures { result ≡ evaluated E.kind point (map E.kind.embed coefficients.now) }
 {
     let mut acc = E::zero();
     for c in coefficients.iter().rev() {
@@ -57,13 +57,13 @@ pub fn horner_u32<E: Field>(coefficients: &[u32], point: E) -> E
 
 // Values of the coordinates put together: the sum of x^i·v_i.
 pub fn recompose<E: Field>(values: &[E]) -> E
-    ensures { result ≡ recomposed kind values.now }
+    ensures { result ≡ recomposed E.kind values.now }
 {
     horner(values, E::basis_power(1))
 }
 
 pub fn sum<E: Field>(values: &[E]) -> E
-    ensures { result ≡ total kind values.now }
+    ensures { result ≡ total E.kind values.now }
 {
     let mut acc = E::zero();
     for v in values {
@@ -73,7 +73,7 @@ pub fn sum<E: Field>(values: &[E]) -> E
 }
 
 pub fn product_of<E: Field>(values: &[E]) -> E
-    ensures { result ≡ product kind values.now }
+    ensures { result ≡ product E.kind values.now }
 {
     let mut acc = E::one();
     for v in values {

@@ -7,7 +7,7 @@ use crate::field::Field;
 
 // Sets a place from offered coefficients. A place that refuses them keeps what it held.
 pub fn set_from_coefficients<E: Field>(place: &mut E, offered: &[u64]) -> Result<(), ElementError>
-    ensures { Placed kind offered.now place.old place.new (refusal element_fault result) }
+    ensures { Placed E.kind offered.now place.old place.new (refusal element_fault result) }
 {
     match E::from_coefficients(offered) {
         None => Err(ElementError::Canonical),

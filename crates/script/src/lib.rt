@@ -1,4 +1,6 @@
 // The text form of scripts: how it is read, and how answers are written.
+#![tactic(auto)]
+
 mod faults;
 mod hex;
 mod lines;

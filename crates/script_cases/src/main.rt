@@ -1,4 +1,6 @@
 // Scripts of many kinds, most of them wrong, each with what it answers.
+#![tactic(auto)]
+
 use elements::f257::F257;
 use script::replies::{answer, error_text};
 use std::{env, fs};

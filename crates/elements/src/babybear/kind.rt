@@ -10,7 +10,6 @@ use crate::babybear::product::product;
 use crate::babybear::{BabyBear, BaseNumber};
 use crate::coefficients::Coefficients;
 use crate::field::Field;
-use crate::lists::exp_u64;
 
 // w(27) is 31^15, and each before it the square of the next.
 const ROOTS: [u32; 28] = [
@@ -39,6 +38,23 @@ fn element(a: u64, b: u64, c: u64, d: u64) -> BabyBear
         c2: BaseNumber::reduced(c),
         c3: BaseNumber::reduced(d),
     }
+}
+
+// x to the power n, by repeated squaring: what `exp_u64` is for every kind, before BabyBear is one.
+fn power(x: BabyBear, n: u64) -> BabyBear
+    ensures { result ≡ pow babybear x n }
+{
+    let mut power = element(1, 0, 0, 0);
+    let mut base = x;
+    let mut left = n;
+    while left > 0 {
+        if left % 2 == 1 {
+            power = product(power, base);
+        }
+        base = product(base, base);
+        left /= 2;
+    }
+    power
 }
 
 impl Field for BabyBear {
@@ -106,7 +122,7 @@ impl Field for BabyBear {
     }
 
     fn basis_power(e: u64) -> BabyBear {
-        exp_u64(element(0, 1, 0, 0), e)
+        power(element(0, 1, 0, 0), e)
     }
 
     fn generator() -> BabyBear {

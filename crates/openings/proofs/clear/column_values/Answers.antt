@@ -20,8 +20,8 @@ offset-bounds-numbers-from g c =
     let e = column_within (entry_view c.args.table) c.args.size _ c.loop-column.column c.requires.within c.requires.size c.loop-column-test.true in
     omega arith
 
-pub slice-bounds-horner-u32-end : goal.slice-bounds-horner-u32-end
-slice-bounds-horner-u32-end g c =
+pub slice-bounds-horner_u32-end : goal.slice-bounds-horner_u32-end
+slice-bounds-horner_u32-end g c =
     let e = column_within (entry_view c.args.table) c.args.size _ c.loop-column.column c.requires.within c.requires.size c.loop-column-test.true in
     omega arith
 

@@ -11,13 +11,13 @@ loop-part-init c = ap (λ l. option_map (λ ns. l ++ ns) (all_of number_of (map 
 
 pub returns-in-default : goal.returns-in-default
 returns-in-default c =
-    none_read number_of seen c.args.parts.now c.loop-part.part-index (vec_items c.loop-part.numbers) _ c.loop-part.invariant _ c.loop-part-test.true (sym c.read-number.ensures ∙ c.in-default.is)
+    none_read number_of seen c.args.parts.now c.loop-part.part-index (vec_items c.loop-part.numbers) _ c.loop-part.invariant _ c.loop-part-test.true (sym c.read_number.ensures ∙ c.in-default.is)
 
 pub loop-part-preserved : goal.loop-part-preserved
 loop-part-preserved c =
     let e =
     one_read number_of seen c.args.parts.now c.loop-part.part-index (vec_items c.loop-part.numbers) _ c.loop-part.invariant _ c.in-Some.number c.loop-part-test.true
-    (sym c.read-number.ensures ∙ c.in-Some.is) in
+    (sym c.read_number.ensures ∙ c.in-Some.is) in
     ap (λ l. option_map (λ ns. l ++ ns) (all_of number_of (map seen (drop (c.loop-part.part-index + 1) c.args.parts.now)))) c.in-ok-push.ensures.items ∙ e
 
 pub returns : goal.returns

@@ -16,5 +16,5 @@ pub returns : goal.returns
 returns g c =
     let parts = c.in-ok-parts.parts in
     let many = c.len.ensures ∙ parts.ok.0 ∙ sym (length-map (vec_items parts) seen) ∙ ap length c.in-ok-parts.ensures in
-    c.in-ok-numbers.ensures ∙ ap (λ l. all_of number_of (map seen l)) c.as-slice.ensures.value ∙ ap (all_of number_of) c.in-ok-parts.ensures
+    c.in-ok-numbers.ensures ∙ ap (λ l. all_of number_of (map seen l)) c.as_slice.ensures.value ∙ ap (all_of number_of) c.in-ok-parts.ensures
     ∙ right_count _ c.args.word.now _ many (c.if-len-dimension.false ∙ c.dimension.ensures)

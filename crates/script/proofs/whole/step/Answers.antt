@@ -7,10 +7,10 @@ use Rattle.script.specs.Rules.{on_ok, statement_view}
 use Rattle.script.proofs.Stepping.{no_words, unnamed, between, within, stepped_by}
 use Rattle.script.proofs.whole.step.Goals as goal
 
-pub returns-then-is-empty : goal.returns-then-is-empty
-returns-then-is-empty g c =
+pub returns-then-is_empty : goal.returns-then-is_empty
+returns-then-is_empty g c =
     no_words g.E.Field.kind (vec_items c.args.statements.now) c.args.progress (map seen c.args.words.now)
-    (length-map c.args.words.now seen ∙ true-eqb _ 0 c.if-is-empty.ensures)
+    (length-map c.args.words.now seen ∙ true-eqb _ 0 c.if-is_empty.ensures)
 
 pub returns-in-Ok : goal.returns-in-Ok
 returns-in-Ok g c =
@@ -21,7 +21,7 @@ returns-in-Ok g c =
       statements = map statement_view (vec_items c.args.statements.now);
     })) c.in-Ok.ensures
     ∙ unnamed g.E.Field.kind (vec_items c.args.statements.now) c.args.progress (map seen c.args.words.now)
-    (omega (arith, length-map c.args.words.now seen, false-eqb _ 0 c.if-is-empty.ensures)) c.in-default.is
+    (omega (arith, length-map c.args.words.now seen, false-eqb _ 0 c.if-is_empty.ensures)) c.in-default.is
 
 pub returns-in-Err : goal.returns-in-Err
 returns-in-Err g c = (
@@ -32,20 +32,20 @@ returns-in-Err g c = (
     statements = map statement_view (vec_items c.args.statements.now);
   })) c.in-Err.ensures
       ∙ unnamed g.E.Field.kind (vec_items c.args.statements.now) c.args.progress (map seen c.args.words.now)
-      (omega (arith, length-map c.args.words.now seen, false-eqb _ 0 c.if-is-empty.ensures)) c.in-default.is,
+      (omega (arith, length-map c.args.words.now seen, false-eqb _ 0 c.if-is_empty.ensures)) c.in-default.is,
   refl,
 )
 
 pub returns-in-None : goal.returns-in-None
 returns-in-None g c =
-    stepped_by (vec_items c.args.statements.now) (vec_items c.outer-step.new.statements) c.outer-step.result _ _
+    stepped_by (vec_items c.args.statements.now) (vec_items c.outer_step.new.statements) c.outer_step.result _ _
     (between g.E.Field.kind (vec_items c.args.statements.now) c.args.progress c.in-Some.field (map seen c.args.words.now)
-    (omega (arith, length-map c.args.words.now seen, false-eqb _ 0 c.if-is-empty.ensures)) c.in-Some.is c.in-None.is)
-    c.outer-step.ensures
+    (omega (arith, length-map c.args.words.now seen, false-eqb _ 0 c.if-is_empty.ensures)) c.in-Some.is c.in-None.is)
+    c.outer_step.ensures
 
 pub returns-in-Some-block : goal.returns-in-Some-block
 returns-in-Some-block g c =
-    stepped_by (vec_items c.args.statements.now) (vec_items c.clear-step.new.statements) c.clear-step.result _ _
+    stepped_by (vec_items c.args.statements.now) (vec_items c.clear_step.new.statements) c.clear_step.result _ _
     (within g.E.Field.kind (vec_items c.args.statements.now) c.args.progress c.in-Some.field _ (map seen c.args.words.now)
-    (omega (arith, length-map c.args.words.now seen, false-eqb _ 0 c.if-is-empty.ensures)) c.in-Some.is (ap (option_map clear_view) c.in-Some-block.is))
-    c.clear-step.ensures
+    (omega (arith, length-map c.args.words.now seen, false-eqb _ 0 c.if-is_empty.ensures)) c.in-Some.is (ap (option_map clear_view) c.in-Some-block.is))
+    c.clear_step.ensures

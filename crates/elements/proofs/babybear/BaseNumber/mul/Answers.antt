@@ -4,4 +4,4 @@ use Rattle.elements.proofs.babybear.BaseNumber.mul.Goals as goal
 
 pub returns : goal.returns
 unfolding base
-returns c = c.reduced.ensures ∙ ap of c.wide-product.ensures.value
+returns c = c.reduced.ensures ∙ ap of c.wide_product.ensures.value

@@ -20,7 +20,7 @@ loop-b-preserved c =
     let i = c.loop-b.invariant in
     let n = c.from-b.result in (
       i.1,
-      ap (base.times (of n)) c.minus-multiple-next.ensures ∙ turn n c.loop-b.a c.loop-b.b c.loop-b.s c.loop-b.t i.0 i.1,
+      ap (base.times (of n)) c.minus_multiple-next.ensures ∙ turn n c.loop-b.a c.loop-b.b c.loop-b.s c.loop-b.t i.0 i.1,
       (λ d h g. i.2 d (divides d c.loop-b.a c.loop-b.b h g) h),
     )
 

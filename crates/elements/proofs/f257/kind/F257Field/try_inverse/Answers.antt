@@ -23,4 +23,4 @@ pub returns : goal.returns
 returns c =
     let x = c.args.self in
     let pos : 0 < x.value = omega arith in
-    same_inverse f257 f257_ring x _ _ (same _ _ (c.listed-inverse-value.ensures.times pos)) (f257_laws.inverses x)
+    same_inverse f257 f257_ring x _ _ (same _ _ (c.listed_inverse-value.ensures.times pos)) (f257_laws.inverses x)

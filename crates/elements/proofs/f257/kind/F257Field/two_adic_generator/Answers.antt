@@ -7,5 +7,5 @@ use Rattle.elements.proofs.f257.kind.F257Field.two_adic_generator.Goals as goal
 
 pub returns : goal.returns
 returns c =
-    ap Some (sym (of_value _) ∙ ap of c.listed-root-value.ensures.value)
+    ap Some (sym (of_value _) ∙ ap of c.listed_root-value.ensures.value)
     ∙ sym (cond-true _ (Some (root_of f257 c.args.bits)) _ (le-leb c.args.bits 7 (omega arith)))
