@@ -5,23 +5,23 @@ use Rattle.openings.specs.Coefficients.{entry_view, column_of}
 use Rattle.openings.proofs.Places.{column_within, column_part}
 use Rattle.openings.proofs.clear.column_values.Goals as goal
 
-pub overflow-add-from : goal.overflow-add-from
-overflow-add-from g c =
+pub overflow_add-from : goal.overflow_add-from
+overflow_add-from g c =
     let e = column_within (entry_view c.args.table) c.args.size _ c.loop-column.column c.requires.within c.requires.size c.loop-column-test.true in
     omega arith
 
-pub overflow-add-from-in-loop-column : goal.overflow-add-from-in-loop-column
-overflow-add-from-in-loop-column g c =
+pub overflow_add-from-in-loop-column : goal.overflow_add-from-in-loop-column
+overflow_add-from-in-loop-column g c =
     let e = column_within (entry_view c.args.table) c.args.size _ c.loop-column.column c.requires.within c.requires.size c.loop-column-test.true in
     omega arith
 
-pub offset-bounds-numbers-from : goal.offset-bounds-numbers-from
-offset-bounds-numbers-from g c =
+pub offset_bounds-numbers-from : goal.offset_bounds-numbers-from
+offset_bounds-numbers-from g c =
     let e = column_within (entry_view c.args.table) c.args.size _ c.loop-column.column c.requires.within c.requires.size c.loop-column-test.true in
     omega arith
 
-pub slice-bounds-horner_u32-end : goal.slice-bounds-horner_u32-end
-slice-bounds-horner_u32-end g c =
+pub slice_bounds-horner_u32-end : goal.slice_bounds-horner_u32-end
+slice_bounds-horner_u32-end g c =
     let e = column_within (entry_view c.args.table) c.args.size _ c.loop-column.column c.requires.within c.requires.size c.loop-column-test.true in
     omega arith
 
@@ -33,5 +33,5 @@ loop-column-preserved g c =
     let column = c.loop-column.column in
     let part = column_part numbers table c.args.size column c.requires.size c.loop-column-test.true in
     let more = map-range_with_len_more (λ n. evaluated k c.args.point (map k.embed (column_of numbers table n))) 0 column column (omega arith) in
-    let pushed = c.in-ok-push.ensures.items in
+    let pushed = c.in_ok-push.ensures.items in
     cc

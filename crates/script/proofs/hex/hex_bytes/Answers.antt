@@ -11,10 +11,10 @@ returns-then-word-gt64 c =
       | then-word-gt64-via-else-word-gt64+then-word-eq1 w ↦ odd_refused c.args.word.now w.if-word-eq1.true
     ]
 
-pub returns-in-err-bytes : goal.returns-in-err-bytes
-returns-in-err-bytes c =
+pub returns-in_err-bytes : goal.returns-in_err-bytes
+returns-in_err-bytes c =
     let far : 2 * c.loop-i.i + 1 < length c.args.word.now = omega arith in
-    c.from-residual.ensures ∙ pair_refused c.args.word.now c.loop-i.bytes c.loop-i.i c.loop-i.invariant.1 far (sym c.hex_pair.ensures ∙ c.in-err-bytes.was)
+    c.from-residual.ensures ∙ pair_refused c.args.word.now c.loop-i.bytes c.loop-i.i c.loop-i.invariant.1 far (sym c.hex_pair.ensures ∙ c.in_err-bytes.was)
 
 pub loop-i-preserved : goal.loop-i-preserved
 loop-i-preserved c =
@@ -24,7 +24,7 @@ loop-i-preserved c =
     sym (drop-drop 1 c.loop-i.i c.loop-i.bytes) ∙ ap (drop 1) c.loop-i.invariant.2 ∙ drop-replicate 1 (32 - c.loop-i.i) 0
     ∙ ap (λ n. replicate n 0) (let e : 32 - c.loop-i.i - 1 ≡ 32 - (c.loop-i.i + 1) = omega arith in e) in (
       length-set c.loop-i.bytes c.loop-i.i _ ∙ c.loop-i.invariant.0,
-      pair_written c.args.word.now c.loop-i.bytes c.loop-i.i c.loop-i.invariant.1 c.in-ok-bytes.field-0 room far (sym c.hex_pair.ensures ∙ c.in-ok-bytes.was),
+      pair_written c.args.word.now c.loop-i.bytes c.loop-i.i c.loop-i.invariant.1 c.in_ok-bytes.field-0 room far (sym c.hex_pair.ensures ∙ c.in_ok-bytes.was),
       drop-set-lt (c.loop-i.i + 1) c.loop-i.bytes c.loop-i.i _ (omega arith) ∙ next,
     )
 

@@ -6,7 +6,7 @@ use Rattle.script.proofs.hex.write_hex.Goals as goal
 
 pub loop-byte-preserved : goal.loop-byte-preserved
 loop-byte-preserved c =
-    part_written hex_byte c.args.bytes.now c.loop-byte.byte-index (string_bytes c.loop-byte.out) _ c.loop-byte.invariant _ _ c.loop-byte-test.true c.in-ok-write_byte.ensures
+    part_written hex_byte c.args.bytes.now c.loop-byte.byte-index (string_bytes c.loop-byte.out) _ c.loop-byte.invariant _ _ c.loop-byte-test.true c.in_ok-write_byte.ensures
 
 pub returns : goal.returns
 returns c = record {

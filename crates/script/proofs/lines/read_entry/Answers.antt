@@ -11,8 +11,8 @@ returns c =
     five (eqb (length ws) 6) (sym c.has_words.ensures ∙ c.if-not-has_words.false)
     (λ b m d s n. record { commitment = b; matrix = m; bits = d; start = s; columns = n })
     (commitment_of_word (word ws 1)) (number_of_word (word ws 2)) (number_of_word (word ws 3)) (number_of_word (word ws 4)) (number_of_word (word ws 5)) _ _ _ _ _ _
-    (c.in-ok-commitment.ensures ∙ ap commitment_of_word c.word_at.ensures)
-    (c.in-ok-matrix.ensures ∙ ap number_of_word c.word_at-2.ensures)
-    (c.in-ok-bits.ensures ∙ ap number_of_word c.word_at-3.ensures)
-    (c.in-ok-start.ensures ∙ ap number_of_word c.word_at-4.ensures)
-    (c.in-ok-columns.ensures ∙ ap number_of_word c.word_at-5.ensures)
+    (c.in_ok-commitment.ensures ∙ ap commitment_of_word c.word_at.ensures)
+    (c.in_ok-matrix.ensures ∙ ap number_of_word c.word_at-2.ensures)
+    (c.in_ok-bits.ensures ∙ ap number_of_word c.word_at-3.ensures)
+    (c.in_ok-start.ensures ∙ ap number_of_word c.word_at-4.ensures)
+    (c.in_ok-columns.ensures ∙ ap number_of_word c.word_at-5.ensures)

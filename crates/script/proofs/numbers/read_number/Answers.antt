@@ -7,27 +7,27 @@ returns-then-not-is_ascii_digit c =
     stops_at c.args.word.now c.loop-byte.byte-index c.loop-byte.number c.loop-byte-test.true c.loop-byte.invariant
     (sym c.is_ascii_digit.ensures.value ∙ c.if-not-is_ascii_digit.true)
 
-pub returns-in-err-checked_mul : goal.returns-in-err-checked_mul
-returns-in-err-checked_mul c =
+pub returns-in_err-checked_mul : goal.returns-in_err-checked_mul
+returns-in_err-checked_mul c =
     c.from-residual.ensures
     ∙ stops_past c.args.word.now c.loop-byte.byte-index c.loop-byte.number c.loop-byte-test.true c.loop-byte.invariant
-    (sym c.is_ascii_digit.ensures.value ∙ c.if-not-is_ascii_digit.false) (omega (arith, c.in-err-checked_mul.ensures))
+    (sym c.is_ascii_digit.ensures.value ∙ c.if-not-is_ascii_digit.false) (omega (arith, c.in_err-checked_mul.ensures))
 
-pub returns-in-err-number : goal.returns-in-err-number
-returns-in-err-number c =
-    c.from-residual-in-err-number.ensures
+pub returns-in_err-number : goal.returns-in_err-number
+returns-in_err-number c =
+    c.from-residual-in_err-number.ensures
     ∙ stops_past c.args.word.now c.loop-byte.byte-index c.loop-byte.number c.loop-byte-test.true c.loop-byte.invariant
     (sym c.is_ascii_digit.ensures.value ∙ c.if-not-is_ascii_digit.false)
-    (omega (arith, c.in-err-number.ensures, c.in-ok-checked_mul.ensures, c.from.ensures))
+    (omega (arith, c.in_err-number.ensures, c.in_ok-checked_mul.ensures, c.from.ensures))
 
 pub loop-byte-preserved : goal.loop-byte-preserved
 loop-byte-preserved c =
     let e =
     goes_past c.args.word.now c.loop-byte.byte-index c.loop-byte.number c.loop-byte-test.true c.loop-byte.invariant
     (sym c.is_ascii_digit.ensures.value ∙ c.if-not-is_ascii_digit.false)
-    (omega (arith, c.in-ok-number.ensures, c.in-ok-checked_mul.ensures, c.from.ensures)) in
-    let n : c.in-ok-number.number ≡ c.loop-byte.number * 10 + (get_or c.args.word.now c.loop-byte.byte-index 0 - 48) =
-    omega (arith, c.in-ok-number.ensures, c.in-ok-checked_mul.ensures, c.from.ensures) in
+    (omega (arith, c.in_ok-number.ensures, c.in_ok-checked_mul.ensures, c.from.ensures)) in
+    let n : c.in_ok-number.number ≡ c.loop-byte.number * 10 + (get_or c.args.word.now c.loop-byte.byte-index 0 - 48) =
+    omega (arith, c.in_ok-number.ensures, c.in_ok-checked_mul.ensures, c.from.ensures) in
     cc
 
 pub returns : goal.returns

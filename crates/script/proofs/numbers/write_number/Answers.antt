@@ -4,6 +4,6 @@ use Rattle.script.proofs.numbers.write_number.Goals as goal
 
 pub returns : goal.returns
 returns c = record {
-  adds = c.in-ok-push_str.ensures.bytes ∙ ap (λ l. string_bytes c.args.out.now ++ l) (c.as_str.ensures.value ∙ c.in-ok-digits.ensures.ok);
+  adds = c.in_ok-push_str.ensures.bytes ∙ ap (λ l. string_bytes c.args.out.now ++ l) (c.as_str.ensures.value ∙ c.in_ok-digits.ensures.ok);
   reads_back = decimal_read c.args.number (omega arith);
 }

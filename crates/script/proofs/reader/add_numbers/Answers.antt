@@ -8,16 +8,16 @@ use Rattle.script.specs.declared.statement.What.TheVariants.{SmallNumber}
 use Rattle.script.proofs.Filling.{number_refused, number_added, numbers_added, with_reason}
 use Rattle.script.proofs.reader.add_numbers.Goals as goal
 
-pub returns-in-default : goal.returns-in-default
-returns-in-default c =
+pub returns-in_default : goal.returns-in_default
+returns-in_default c =
     ap (λ o. ok_or o SmallNumber) (number_refused seen c.args.words.now c.loop-word.word-index (clear_view c.loop-word.clear) _ c.loop-word.invariant _ c.loop-word-test.true
-    (sym c.small_number.ensures ∙ c.in-default.is))
+    (sym c.small_number.ensures ∙ c.in_default.is))
     ∙ with_reason (with_numbers (clear_view c.args.clear.now)) (all_of small_of (map seen c.args.words.now)) SmallNumber
 
 pub loop-word-preserved : goal.loop-word-preserved
 loop-word-preserved c =
     number_added seen c.args.words.now c.loop-word.word-index (clear_view c.loop-word.clear) _ c.loop-word.invariant _ _ _ c.loop-word-test.true
-    (sym c.small_number.ensures ∙ c.in-Some.is) c.in-ok-add_number.ensures
+    (sym c.small_number.ensures ∙ c.in-Some.is) c.in_ok-add_number.ensures
 
 pub returns : goal.returns
 returns c =

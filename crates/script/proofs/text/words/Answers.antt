@@ -16,7 +16,7 @@ loop-part-preserved-in-Continue·-branch-2 c =
     let e =
     part_kept (map seen (vec_items c.loop-part.words)) _ (map seen (into_iter_items c.loop-part.part-iterator)) (map seen (into_iter_items c.next.new.self)) c.in-Some.part.now
     (ap (map seen) c.in-Some.ensures.steps.0) c.loop-part.invariant (sym c.if-not-is_empty.ensures) in
-    let p = ap (map seen) c.in-ok-push.ensures.items ∙ map_push seen (vec_items c.loop-part.words) _ in
+    let p = ap (map seen) c.in_ok-push.ensures.items ∙ map_push seen (vec_items c.loop-part.words) _ in
     cc
 
 pub loop-part-init : goal.loop-part-init
@@ -27,7 +27,7 @@ pub returns : goal.returns
 returns c =
     let none = nil_from_length (into_iter_items c.loop-part.part-iterator) (sym c.loop-part.part-iterator.rest.ok.0 ∙ c.in-None.ensures.steps.0) in
     let from = c.into-iter-part-iterator.ensures.into-iter-gives.0 in
-    let cut = c.in-ok-parts.ensures in
+    let cut = c.in_ok-parts.ensures in
     let whole = c.without_comment.ensures in
     sym (append-nil _) ∙ ap (λ l. map seen (vec_items c.loop-part.words) ++ filter some (map seen l)) (sym none) ∙ c.loop-part.invariant
     ∙ ap (λ l. filter some (map seen l)) from ∙ ap (filter some) (cut ∙ ap (pieces (cuts_at Blank)) whole)

@@ -5,6 +5,6 @@ use Rattle.script.proofs.values.write_element.Goals as goal
 
 pub returns : goal.returns
 returns g c = record {
-  adds = c.in-ok-write_commaed.ensures ∙ ap (λ l. string_bytes c.args.out.now ++ commaed l) (c.as_slice.ensures ∙ c.coefficients-coefficients.ensures);
+  adds = c.in_ok-write_commaed.ensures ∙ ap (λ l. string_bytes c.args.out.now ++ commaed l) (c.as_slice.ensures ∙ c.coefficients-coefficients.ensures);
   reads_back = element_back g.E.Field.kind g.met.E.Field.lawful c.args.element;
 }

@@ -4,8 +4,8 @@ use Rattle.script.specs.Rules.{on_ok, state_in, clear_line_view, after_clear}
 use Rattle.script.proofs.Stepping.{said_more}
 use Rattle.script.proofs.whole.clear_step.Goals as goal
 
-pub returns-in-ok-push : goal.returns-in-ok-push
-returns-in-ok-push g c =
-    said_more _ _ _ (vec_items c.args.statements.now) (vec_items c.push.new.self) _ _ c.in-ok-push.ensures.items
+pub returns-in_ok-push : goal.returns-in_ok-push
+returns-in_ok-push g c =
+    said_more _ _ _ (vec_items c.args.statements.now) (vec_items c.push.new.self) _ _ c.in_ok-push.ensures.items
     (ap (λ l. on_ok (after_clear g.E.Field.kind (state_in c.args.field c.args.scheme (Some (clear_view c.args.clear)) (vec_items c.args.statements.now))) (Ok (clear_line_view l))) (sym c.in-Ends.is)
-    ∙ ap (on_ok (after_clear g.E.Field.kind (state_in c.args.field c.args.scheme (Some (clear_view c.args.clear)) (vec_items c.args.statements.now)))) c.in-ok-clear.ensures)
+    ∙ ap (on_ok (after_clear g.E.Field.kind (state_in c.args.field c.args.scheme (Some (clear_view c.args.clear)) (vec_items c.args.statements.now)))) c.in_ok-clear.ensures)

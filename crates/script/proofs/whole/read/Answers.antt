@@ -6,5 +6,5 @@ use Rattle.script.proofs.whole.read.Goals as goal
 
 pub returns : goal.returns
 returns g c =
-    let lines = ap (map line_of) c.as_slice.ensures.value ∙ lines_of (vec_items c.in-ok-lines.lines) ∙ ap (map words_of) c.in-ok-lines.ensures in
-    subst (λ l. ScriptRead g.E.Field.kind l (vec_items c.in-ok-script.script.statements) c.in-ok-script.script.error) lines c.in-ok-script.ensures
+    let lines = ap (map line_of) c.as_slice.ensures.value ∙ lines_of (vec_items c.in_ok-lines.lines) ∙ ap (map words_of) c.in_ok-lines.ensures in
+    subst (λ l. ScriptRead g.E.Field.kind l (vec_items c.in_ok-script.script.statements) c.in_ok-script.script.error) lines c.in_ok-script.ensures

@@ -21,7 +21,7 @@ returns-in-Ok g c =
       statements = map statement_view (vec_items c.args.statements.now);
     })) c.in-Ok.ensures
     ∙ unnamed g.E.Field.kind (vec_items c.args.statements.now) c.args.progress (map seen c.args.words.now)
-    (omega (arith, length-map c.args.words.now seen, false-eqb _ 0 c.if-is_empty.ensures)) c.in-default.is
+    (omega (arith, length-map c.args.words.now seen, false-eqb _ 0 c.if-is_empty.ensures)) c.in_default.is
 
 pub returns-in-Err : goal.returns-in-Err
 returns-in-Err g c = (
@@ -32,7 +32,7 @@ returns-in-Err g c = (
     statements = map statement_view (vec_items c.args.statements.now);
   })) c.in-Err.ensures
       ∙ unnamed g.E.Field.kind (vec_items c.args.statements.now) c.args.progress (map seen c.args.words.now)
-      (omega (arith, length-map c.args.words.now seen, false-eqb _ 0 c.if-is_empty.ensures)) c.in-default.is,
+      (omega (arith, length-map c.args.words.now seen, false-eqb _ 0 c.if-is_empty.ensures)) c.in_default.is,
   refl,
 )
 
