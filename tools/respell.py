@@ -13,6 +13,10 @@ from pathlib import Path
 # in this one file the lemma had the name that the definition of the file below it has now
 FIRST = {"crates/elements/specs/BearLaws.antt": {"is_one": "one_told"}}
 
+# a definition that has the name of a function of src/ by now: only the definition is respelled
+DEFINITION = r"(?<![\w'.-])block_line(?![\w'-])"
+CLAUSE = r"(?ms)^\s*(?:ghost use|ensures|requires)\b.*?(?=^\s*(?:\{\s*$|use |ensures|requires|ghost|fn |pub |//|$))"
+
 NAMES = {
     "Divides-powers": "DividesPowers",
     "Divisor-invertible": "DivisorInvertible",
@@ -44,7 +48,6 @@ NAMES = {
     "bearOf": "bear_of",
     "bearRing": "bear_ring",
     "begins-clear": "begins_clear",
-    "block_line": "block_rule",
     "byBlock": "by_block",
     "byField": "by_field",
     "cancels-value": "cancels_value",
@@ -337,6 +340,10 @@ def main():
         if first:
             new = respelled(new, first)
         new = respelled(new, NAMES)
+        if path.suffix == ".antt":
+            new = re.sub(DEFINITION, "block_rule", new)
+        else:
+            new = re.sub(CLAUSE, lambda m: re.sub(DEFINITION, "block_rule", m[0]), new)
         if new != old:
             path.write_text(new)
             changed += 1

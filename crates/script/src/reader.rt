@@ -73,7 +73,7 @@ fn entry_line(mut clear: Clear, words: &[&[u8]]) -> Result<Clear, LineError>
 }
 
 // A line of a clear block.
-pub(crate) fn block_rule(clear: Clear, words: &[&[u8]]) -> Result<ClearLine, LineError>
+pub(crate) fn block_line(clear: Clear, words: &[&[u8]]) -> Result<ClearLine, LineError>
     ensures { LineRead (block_rule (clear_view clear) (map seen words.now)) clear_line_view result }
 {
     if is(word_at(words, 0), "numbers") {

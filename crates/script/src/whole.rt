@@ -6,7 +6,7 @@ ghost use Rattle.script.specs.Reading.{Stepped, Ending, ScriptRead};
 ghost use Rattle.script.specs.Rules.{on_ok, state_in, state_view, outer_rule, after_outer, block_rule, after_clear, rule_of};
 
 use crate::lines::read_field;
-use crate::reader::{block_rule, outer_line};
+use crate::reader::{block_line, outer_line};
 use crate::statement::{
     ClearLine, FieldName, LineError, OuterLine, Progress, Script, ScriptError, Statement, What,
 };
@@ -56,7 +56,7 @@ fn clear_step<E: Field>(
         (block_rule (clear_view clear) (map seen words.now)))
         statements.old.items statements.new.items result }
 {
-    match block_rule(clear, words)? {
+    match block_line(clear, words)? {
         ClearLine::GoesOn(clear) => Ok(Progress {
             field: Some(field),
             scheme,

@@ -14,7 +14,7 @@ returns-then-word-gt64 c =
 pub returns-in_err-bytes : goal.returns-in_err-bytes
 returns-in_err-bytes c =
     let far : 2 * c.loop-i.i + 1 < length c.args.word.now = omega arith in
-    c.from-residual.ensures ∙ pair_refused c.args.word.now c.loop-i.bytes c.loop-i.i c.loop-i.invariant.1 far (sym c.hex_pair.ensures ∙ c.in_err-bytes.was)
+    c.from_residual.ensures ∙ pair_refused c.args.word.now c.loop-i.bytes c.loop-i.i c.loop-i.invariant.1 far (sym c.hex_pair.ensures ∙ c.in_err-bytes.was)
 
 pub loop-i-preserved : goal.loop-i-preserved
 loop-i-preserved c =

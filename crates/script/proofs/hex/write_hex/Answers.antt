@@ -11,5 +11,5 @@ loop-byte-preserved c =
 pub returns : goal.returns
 returns c = record {
   adds = parts_written hex_byte c.args.bytes.now c.loop-byte.byte-index (string_bytes c.loop-byte.out) _ c.loop-byte.invariant c.loop-byte-test.false;
-  reads_back = bytes_back c.args.bytes.now (λ i. omega (arith, c.type-inv.bytes i));
+  reads_back = bytes_back c.args.bytes.now (λ i. omega (arith, c.type_inv.bytes i));
 }

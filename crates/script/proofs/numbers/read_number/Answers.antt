@@ -9,13 +9,13 @@ returns-then-not-is_ascii_digit c =
 
 pub returns-in_err-checked_mul : goal.returns-in_err-checked_mul
 returns-in_err-checked_mul c =
-    c.from-residual.ensures
+    c.from_residual.ensures
     ∙ stops_past c.args.word.now c.loop-byte.byte-index c.loop-byte.number c.loop-byte-test.true c.loop-byte.invariant
     (sym c.is_ascii_digit.ensures.value ∙ c.if-not-is_ascii_digit.false) (omega (arith, c.in_err-checked_mul.ensures))
 
 pub returns-in_err-number : goal.returns-in_err-number
 returns-in_err-number c =
-    c.from-residual-in_err-number.ensures
+    c.from_residual-in_err-number.ensures
     ∙ stops_past c.args.word.now c.loop-byte.byte-index c.loop-byte.number c.loop-byte-test.true c.loop-byte.invariant
     (sym c.is_ascii_digit.ensures.value ∙ c.if-not-is_ascii_digit.false)
     (omega (arith, c.in_err-number.ensures, c.in_ok-checked_mul.ensures, c.from.ensures))

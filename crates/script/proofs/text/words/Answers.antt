@@ -11,22 +11,14 @@ loop-part-preserved c =
     part_passed (map seen (vec_items c.loop-part.words)) _ (map seen (into_iter_items c.loop-part.part-iterator)) (map seen (into_iter_items c.next.new.self)) c.in-Some.part.now
     (ap (map seen) c.in-Some.ensures.steps.0) c.loop-part.invariant (sym c.if-not-is_empty.ensures)
 
-pub loop-part-preserved-in-Continue·-branch-2 : goal.loop-part-preserved-in-Continue·-branch-2
-loop-part-preserved-in-Continue·-branch-2 c =
-    let e =
-    part_kept (map seen (vec_items c.loop-part.words)) _ (map seen (into_iter_items c.loop-part.part-iterator)) (map seen (into_iter_items c.next.new.self)) c.in-Some.part.now
-    (ap (map seen) c.in-Some.ensures.steps.0) c.loop-part.invariant (sym c.if-not-is_empty.ensures) in
-    let p = ap (map seen) c.in_ok-push.ensures.items ∙ map_push seen (vec_items c.loop-part.words) _ in
-    cc
-
 pub loop-part-init : goal.loop-part-init
 loop-part-init c =
-    ap (λ l. map seen l ++ filter some (map seen (into_iter_items c.into-iter-part-iterator.result))) c.new-words.ensures.items
+    ap (λ l. map seen l ++ filter some (map seen (into_iter_items c.into_iter-part-iterator.result))) c.new-words.ensures.items
 
 pub returns : goal.returns
 returns c =
     let none = nil_from_length (into_iter_items c.loop-part.part-iterator) (sym c.loop-part.part-iterator.rest.ok.0 ∙ c.in-None.ensures.steps.0) in
-    let from = c.into-iter-part-iterator.ensures.into-iter-gives.0 in
+    let from = c.into_iter-part-iterator.ensures.into_iter_gives.0 in
     let cut = c.in_ok-parts.ensures in
     let whole = c.without_comment.ensures in
     sym (append-nil _) ∙ ap (λ l. map seen (vec_items c.loop-part.words) ++ filter some (map seen l)) (sym none) ∙ c.loop-part.invariant
