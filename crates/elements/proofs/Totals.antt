@@ -1,6 +1,7 @@
 -- Sums and products of lists of elements. Assumes nothing.
 use Rattle.std.proofs.Common.{◌≡◌, List, [], ◌∷◌, ◌++◌, map, length, sym, refl, ap, ◌∙◌}
-use Rattle.std.specs.List.{AllByRecursion as All}
+use Rattle.std.specs.List.{All}
+use Rattle.std.proofs.lemmas.List.Elements.{All-head, All-tail}
 use Rattle.elements.specs.Kind.{Kind, pow, total, Invertible}
 use Rattle.elements.specs.Operations.{CommutativeRing, operations}
 use Rattle.elements.specs.Sums.{product}
@@ -39,7 +40,8 @@ module _ {R : Type 0} (k : Kind R) (l : CommutativeRing (operations k)) where
   pub total_zero : (vs : List R) → All (λ v. v ≡ k.zero) vs → total k vs ≡ k.zero
   total_zero [] h = refl
   total_zero (v ∷ vs) h =
-      ap (λ a. k.plus a (total k vs)) h.0 ∙ zero_plus (operations k) l (total k vs) ∙ total_zero vs h.1
+      ap (λ a. k.plus a (total k vs)) (All-head (λ u. u ≡ k.zero) v vs h) ∙ zero_plus (operations k) l (total k vs)
+      ∙ total_zero vs (All-tail (λ u. u ≡ k.zero) v vs h)
 
   pub product_append : (us vs : List R) → product k (us ++ vs) ≡ k.times (product k us) (product k vs)
   product_append [] vs = sym (one_times (operations k) l (product k vs))
@@ -66,4 +68,4 @@ module _ {R : Type 0} (k : Kind R) (l : CommutativeRing (operations k)) where
 
   pub product_invertible : (vs : List R) → All (Invertible k) vs → Invertible k (product k vs)
   product_invertible [] h = one_invertible k l
-  product_invertible (v ∷ vs) h = times_invertible k l v (product k vs) h.0 (product_invertible vs h.1)
+  product_invertible (v ∷ vs) h = times_invertible k l v (product k vs) (All-head (Invertible k) v vs h) (product_invertible vs (All-tail (Invertible k) v vs h))

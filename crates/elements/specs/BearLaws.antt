@@ -1,7 +1,7 @@
 -- The kind BabyBear keeps the laws of a field kind. Assumes nothing.
-use Rattle.std.specs.Prelude.{◌≡◌, ℕ, ◌+◌, ◌*◌, ◌/◌, ◌%◌, ◌^◌, ◌<◌, ◌&&◌, T, List, [], ◌∷◌, map, length, nat_eq, slice_index, refl}
+use Rattle.std.specs.Prelude.{◌≡◌, ℕ, All, ◌+◌, ◌*◌, ◌/◌, ◌%◌, ◌^◌, ◌<◌, ◌&&◌, T, List, [], ◌∷◌, map, length, nat_eq, slice_index, refl}
 use Rattle.std.proofs.Common.{ap, sym, subst, ◌∙◌, mod-eq_of_lt, arith, eqb→eq, lit<, lit≤}
-use Rattle.std.proofs.ByRecursion.{All-get_or}
+use Rattle.std.proofs.lemmas.List.Elements.{All-nil, All-cons, All-get_or}
 use Rattle.elements.specs.Bear.{p, of, base, bear, times, coordinates, is_one, numbered, babybear}
 use Rattle.elements.specs.Kind.{Laws, Ranges, Embeds, Coordinates, Roots, Canonical, Invertible, less, root_of, evaluated}
 use Rattle.elements.specs.Operations.{Operations, CommutativeRing, operations}
@@ -121,9 +121,16 @@ powers v =
     ∙ ap (λ z. onto times n0 (onto times n1 (onto times n2 z))) (cons (e n3) [])
     ∙ ap (nested v) times_path ∙ nested_is v
 
+below_all : (v : BabyBear) → All (λ n. n < p) (babybear.coefficients v)
+below_all v =
+    let more = All-cons (λ n. n < p) in
+    let nil = All-nil (λ n. n < p) in
+    more v.c0.value (v.c1.value ∷ v.c2.value ∷ v.c3.value ∷ []) v.c0.below
+    (more v.c1.value (v.c2.value ∷ v.c3.value ∷ []) v.c1.below (more v.c2.value (v.c3.value ∷ []) v.c2.below (more v.c3.value [] v.c3.below nil)))
+
 coordinate_laws : Coordinates babybear
 coordinate_laws = record {
-  canonical = λ v. (refl, (v.c0.below, (v.c1.below, (v.c2.below, (v.c3.below, tt)))));
+  canonical = λ v. (refl, below_all v);
   back = value_back;
   forth = λ cs h.
       kept_numbers cs h.0 (entry_below cs 0 (lit< tt) h) (entry_below cs 1 (lit< tt) h) (entry_below cs 2 (lit< tt) h) (entry_below cs 3 (lit< tt) h);

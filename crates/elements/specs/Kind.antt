@@ -1,6 +1,5 @@
 -- A field kind over the elements R: its numbers, its operations, and the laws that they keep. Assumes nothing.
-use Rattle.std.specs.Prelude.{◌≡◌, ℕ, zero, suc, ◌+◌, ◌*◌, ◌%◌, ◌^◌, ◌<◌, ◌≤◌, cond, List, [], ◌∷◌, map, length, Some, None, Option, ◌≢◌, nat_le}
-use Rattle.std.specs.List.{AllByRecursion as All}
+use Rattle.std.specs.Prelude.{◌≡◌, ℕ, All, zero, suc, ◌+◌, ◌*◌, ◌%◌, ◌^◌, ◌<◌, ◌≤◌, cond, List, [], ◌∷◌, map, length, Some, None, Option, ◌≢◌, nat_le}
 
 pub record Kind (R : Type 0) : Type 0 where
   pub modulus : ℕ  -- p: a base number is a whole number below it

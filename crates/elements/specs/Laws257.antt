@@ -2,6 +2,7 @@
 use Rattle.std.specs.Prelude.{◌≡◌, ℕ, ◌-◌, ◌*◌, ◌%◌, ◌<◌, Bool, T, List, [], ◌∷◌, length, Some, None, Option, ◌==◌, slice_index, refl}
 use Rattle.std.proofs.Common.{ap, sym, subst, ◌∙◌, mod-eq_of_lt, arith, eqb→eq, lit<, lit≤}
 use Rattle.std.proofs.Math.Dec.{eqb_refl}
+use Rattle.std.proofs.lemmas.List.Elements.{All-nil, All-cons, All-head}
 use Rattle.std.specs.Option.{option_map}
 use Rattle.elements.specs.Kind.{Laws, Ranges, Coordinates, Roots, Canonical, Inverse}
 use Rattle.elements.specs.Mod257.{of, f257}
@@ -26,16 +27,16 @@ ranges = record {
 
 pub head_below : (cs : List ℕ) → Canonical f257 cs → slice_index cs 0 < 257
 head_below [] h = absurd (omega (arith, h.0))
-head_below (c ∷ cs) h = h.1.0
+head_below (c ∷ cs) h = All-head (λ n. n < 257) c cs h.1
 
 pub single : (cs : List ℕ) → length cs ≡ 1 → slice_index cs 0 < 257 → Canonical f257 cs × (slice_index cs 0 ∷ [] ≡ cs)
 single [] e h = absurd (omega (arith, e))
-single (c ∷ []) e h = ((refl, (h, tt)), refl)
+single (c ∷ []) e h = ((refl, All-cons (λ n. n < 257) c [] h (All-nil (λ n. n < 257))), refl)
 single (c ∷ d ∷ cs) e h = absurd (omega (arith, e))
 
 coordinates : Coordinates f257
 coordinates = record {
-  canonical = λ v. (refl, (v.below, tt));
+  canonical = λ v. (refl, All-cons (λ n. n < 257) v.value [] v.below (All-nil (λ n. n < 257)));
   back = of_value;
   forth = λ cs h. ap (λ n. n ∷ []) (mod-eq_of_lt (head_below cs h)) ∙ (single cs h.0 (head_below cs h)).1;
   powers = λ v. sym (f257_ring.plus_zero (f257.times f257.one (of v.value)) ∙ one_times (operations f257) f257_ring (of v.value) ∙ of_value v);

@@ -1,7 +1,7 @@
 -- A text cut while it is read from the front. Assumes nothing.
-use Rattle.std.proofs.Common.{◌≡◌, ℕ, ◌+◌, ◌-◌, ◌<◌, ◌≤◌, Bool, true, false, cond, not, eqb, List, [], ◌∷◌, ◌++◌, length, get_or, take, drop, filter, sym, refl, ap, ◌∙◌, append_assoc, append-nil, arith, eq-eqb}
+use Rattle.std.proofs.Common.{◌≡◌, ℕ, ◌+◌, ◌-◌, ◌<◌, ◌≤◌, Bool, true, false, cond, not, eqb, List, [], ◌∷◌, ◌++◌, length, get_or, take, drop, filter, sym, ap, ◌∙◌, append_assoc, append-nil, arith, eq-eqb}
 use Rattle.std.proofs.lemmas.List.{drop_more, drop_all, take_more, take_all, length-drop, get_or-drop}
-use Rattle.script.specs.Pieces.{uncommented, pieces, pieces_after, some}
+use Rattle.script.specs.Pieces.{uncommented, pieces_after, some}
 
 module _ (xs : List ℕ) (i : ℕ) (goal : List ℕ) (so_far : take i xs ++ uncommented (drop i xs) ≡ goal) where
   at : i < length xs → (b : Bool) → eqb (get_or xs i 0) 35 ≡ b → take i xs ++ cond b [] (get_or xs i 0 ∷ uncommented (drop (i + 1) xs)) ≡ goal

@@ -1,14 +1,15 @@
 -- Hexadecimal digits, two by two. Assumes nothing.
-use Rattle.std.proofs.Common.{◌≡◌, ℕ, zero, suc, ◌+◌, ◌-◌, ◌*◌, ◌/◌, ◌%◌, ◌<◌, ◌≤◌, Bool, true, false, cond, ◌&&◌, ltb, leb, List, [], ◌∷◌, ◌++◌, length, get_or, take, drop, set, replicate, Some, None, Option, sym, refl, ap, ◌∙◌, append-nil, arith, lt-ltb, le-leb}
+use Rattle.std.proofs.Common.{◌≡◌, ℕ, ◌+◌, ◌-◌, ◌*◌, ◌/◌, ◌%◌, ◌<◌, ◌≤◌, Bool, true, false, cond, ◌&&◌, ltb, leb, List, [], ◌∷◌, ◌++◌, length, get_or, take, drop, set, replicate, Some, None, Option, sym, refl, ap, ◌∙◌, append-nil, arith, lt-ltb, le-leb}
 use borrow.Author.Tests.{lt-leb}
 use Rattle.std.specs.Option.{option_map}
 use Rattle.std.specs.Char.{digit_value, digit_char}
-use Rattle.std.specs.List.{flat_map, AllByRecursion as All}
+use Rattle.std.specs.List.{All}
 use Rattle.std.proofs.lemmas.List.{drop_more, drop_all, take_more_set, take-append-drop, length-take-le}
+use Rattle.std.proofs.lemmas.List.Elements.{All-head, All-tail, All-from_get_or}
 use Rattle.std.proofs.lemmas.Str.{digit_value-digit_char}
 use Rattle.script.proofs.Collecting.{twice}
 use Rattle.script.specs.Values.{cons_to}
-use Rattle.script.specs.Hexadecimal.{pair_of, pairs_of, commitment_of, hex_byte, hex_of}
+use Rattle.script.specs.Hexadecimal.{pair_of, pairs_of, commitment_of, hex_of}
 
 cons_none : (o : Option ℕ) → cons_to o None ≡ None
 cons_none None = refl
@@ -76,7 +77,7 @@ pair_back b h =
 
 pairs_back : (bs : List ℕ) → All (λ b. b < 256) bs → pairs_of (hex_of bs) ≡ Some bs
 pairs_back [] h = refl
-pairs_back (b ∷ bs) h = ap (λ o. cons_to o (pairs_of (hex_of bs))) (pair_back b h.0) ∙ ap (option_map (λ cs. b ∷ cs)) (pairs_back bs h.1)
+pairs_back (b ∷ bs) h = ap (λ o. cons_to o (pairs_of (hex_of bs))) (pair_back b (All-head (λ b. b < 256) b bs h)) ∙ ap (option_map (λ cs. b ∷ cs)) (pairs_back bs (All-tail (λ b. b < 256) b bs h))
 
 length_hex : (bs : List ℕ) → length (hex_of bs) ≡ 2 * length bs
 length_hex [] = refl
@@ -90,8 +91,7 @@ hex_back bs small full =
     ∙ ap Some (ap (λ n. bs ++ replicate n 0) none ∙ append-nil bs)
 
 below_each : (bs : List ℕ) → ((i : ℕ) → get_or bs i 0 < 256) → All (λ b. b < 256) bs
-below_each [] h = tt
-below_each (b ∷ bs) h = (h 0, below_each bs (λ i. h (suc i)))
+below_each bs h = All-from_get_or (λ b. b < 256) bs 0 (λ i within. h i)
 
 pub bytes_back : (bs : List ℕ) → ((i : ℕ) → get_or bs i 0 < 256) → length bs ≡ 32 → commitment_of (hex_of bs) ≡ Some bs
 bytes_back bs h full = hex_back bs (below_each bs h) full

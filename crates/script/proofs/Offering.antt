@@ -1,6 +1,7 @@
 -- The element with given coefficients. Assumes nothing.
-use Rattle.std.proofs.Common.{◌≡◌, ℕ, ◌<◌, Bool, true, false, cond, ◌&&◌, eqb, ltb, List, [], ◌∷◌, length, Some, None, Decides, Option, sym, refl, ap, ◌∙◌, arith, ltb-true, lt-ltb, eq-eqb, eqb-true}
-use Rattle.std.specs.List.{AllByRecursion as All}
+use Rattle.std.proofs.Common.{◌≡◌, ℕ, ◌<◌, Bool, true, false, cond, ◌&&◌, eqb, ltb, List, [], ◌∷◌, length, Some, None, Option, sym, refl, ap, ◌∙◌, arith, ltb-true, lt-ltb, eq-eqb, eqb-true}
+use Rattle.std.specs.List.{All}
+use Rattle.std.proofs.lemmas.List.Elements.{All-nil, All-cons, All-head, All-tail}
 use Rattle.elements.specs.Kind.{Kind, Laws, Canonical}
 use Rattle.elements.specs.Faults.{Offered}
 use Rattle.script.specs.Values.{all_below, offered_element}
@@ -17,12 +18,14 @@ and_right false b e = absurd (let z : ◌≡◌ {A = Bool} false true = e in no 
     no z = let n : ◌≡◌ {A = ℕ} 0 1 = cc in omega arith
 
 below_all : (p : ℕ) (cs : List ℕ) → all_below p cs ≡ true → All (λ c. c < p) cs
-below_all p [] e = tt
-below_all p (c ∷ cs) e = (ltb-true c p (and_left (ltb c p) (all_below p cs) e), below_all p cs (and_right (ltb c p) (all_below p cs) e))
+below_all p [] e = All-nil (λ c. c < p)
+below_all p (c ∷ cs) e =
+    All-cons (λ c. c < p) c cs (ltb-true c p (and_left (ltb c p) (all_below p cs) e)) (below_all p cs (and_right (ltb c p) (all_below p cs) e))
 
 all_are_below : (p : ℕ) (cs : List ℕ) → All (λ c. c < p) cs → all_below p cs ≡ true
 all_are_below p [] h = refl
-all_are_below p (c ∷ cs) h = ap (λ b. b && all_below p cs) (lt-ltb c p h.0) ∙ all_are_below p cs h.1
+all_are_below p (c ∷ cs) h =
+    ap (λ b. b && all_below p cs) (lt-ltb c p (All-head (λ c. c < p) c cs h)) ∙ all_are_below p cs (All-tail (λ c. c < p) c cs h)
 
 module _ {R : Type 0} (k : Kind R) (l : Laws k) (cs : List ℕ) where
   passes : Canonical k cs → eqb (length cs) k.dimension && all_below k.modulus cs ≡ true

@@ -1,12 +1,12 @@
 -- Lines taken one after the other. Assumes nothing.
-use Rattle.std.proofs.Common.{◌≡◌, ℕ, ◌+◌, ◌<◌, ◌≤◌, true, false, List, [], ◌∷◌, ◌++◌, map, length, get_or, take, drop, is_some, Some, None, Ok, Err, Option, Result, sym, refl, ap, ◌∙◌, subst, inl, inr, arith, Bor}
+use Rattle.std.proofs.Common.{◌≡◌, ℕ, ◌+◌, ◌<◌, ◌≤◌, List, [], ◌∷◌, ◌++◌, map, length, get_or, take, drop, is_some, Some, None, Ok, Err, Option, Result, sym, refl, ap, ◌∙◌, subst, inr, arith, Bor}
 use Rattle.std.specs.Option.{option_map}
 use Rattle.std.proofs.lemmas.List.{take_all, map_more, drop_more, take-append-drop, map-append, length-map, length-take-le}
 use Rattle.elements.specs.Kind.{Kind}
 use Rattle.openings.specs.Coefficients.{clear_view}
 use Rattle.openings.specs.declared.clear.Clear.{Clear}
 use Rattle.script.specs.Pieces.{seen, words_of, line_of}
-use Rattle.script.specs.Reading.{Stepped, taken, Whole, Broken, Unended, Ending, ScriptRead}
+use Rattle.script.specs.Reading.{Stepped, taken, Broken, Ending, ScriptRead}
 use Rattle.script.specs.Rules.{StateV, then, rule_of, begun, state_view, statement_view}
 use Rattle.script.specs.declared.statement.LineError.{LineError}
 use Rattle.script.specs.declared.statement.LineError.TheVariants.{Refused}

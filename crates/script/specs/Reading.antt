@@ -1,12 +1,11 @@
 -- What reading a line, and a whole script, gives. Assumes nothing.
-use Rattle.std.specs.Prelude.{◌≡◌, ℕ, ◌+◌, true, false, cond, ◌⊎◌, List, [], ◌∷◌, ◌++◌, map, length, is_some, Some, None, Ok, Err, vec_items, Option, Result}
+use Rattle.std.specs.Prelude.{◌≡◌, ℕ, ◌+◌, true, false, cond, ◌⊎◌, List, [], ◌∷◌, ◌++◌, map, length, is_some, Some, None, Ok, Err, Option, Result}
 use Rattle.elements.specs.Kind.{Kind}
 use Rattle.script.specs.Rules.{StateV, then, state_view, statement_view, rule_of, begun}
 use Rattle.script.specs.declared.statement.FieldName.{FieldName}
 use Rattle.script.specs.declared.statement.LineError.{LineError}
 use Rattle.script.specs.declared.statement.LineError.TheVariants.{Refused, Memory}
 use Rattle.script.specs.declared.statement.Progress.{Progress}
-use Rattle.script.specs.declared.statement.Script.{Script}
 use Rattle.script.specs.declared.statement.ScriptError.{ScriptError}
 use Rattle.script.specs.declared.statement.Statement.{Statement}
 use Rattle.script.specs.declared.statement.What.{What}

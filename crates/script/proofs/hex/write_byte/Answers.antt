@@ -1,4 +1,4 @@
-use Rattle.std.proofs.Common.{◌≡◌, ◌/◌, ◌%◌, [], ◌∷◌, ◌++◌, string_bytes, ap, ◌∙◌}
+use Rattle.std.proofs.Common.{◌/◌, ◌%◌, [], ◌∷◌, ◌++◌, string_bytes, ap, ◌∙◌}
 use Rattle.std.specs.Char.{digit_char}
 use Rattle.script.proofs.Writing.{two_written}
 use Rattle.script.proofs.hex.write_byte.Goals as goal

@@ -1,4 +1,4 @@
-use Rattle.std.proofs.Common.{◌≡◌, eqb, map, length, Ok, sym, ap, ◌∙◌}
+use Rattle.std.proofs.Common.{eqb, map, length, Ok, sym, ap, ◌∙◌}
 use Rattle.openings.specs.Coefficients.{empty_clear}
 use Rattle.script.specs.Pieces.{seen}
 use Rattle.script.specs.Rules.{flag_of, number_of_word, word}

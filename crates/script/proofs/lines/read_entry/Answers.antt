@@ -1,5 +1,4 @@
-use Rattle.std.proofs.Common.{◌≡◌, eqb, map, length, sym, ap, ◌∙◌}
-use Rattle.openings.specs.Coefficients.{EntryV}
+use Rattle.std.proofs.Common.{eqb, map, length, sym, ap, ◌∙◌}
 use Rattle.script.specs.Pieces.{seen}
 use Rattle.script.specs.Rules.{commitment_of_word, number_of_word, word}
 use Rattle.script.proofs.Lining.{five}

@@ -1,4 +1,4 @@
-use Rattle.std.proofs.Common.{◌≡◌, [], map, sym, ap, ◌∙◌, arith}
+use Rattle.std.proofs.Common.{[], map, sym, arith}
 use Rattle.std.proofs.lemmas.List.{get_or-map, get_or_past, length-map}
 use Rattle.script.specs.Pieces.{seen}
 use Rattle.script.proofs.lines.word_at.Goals as goal

@@ -1,4 +1,4 @@
-use Rattle.std.proofs.Common.{◌≡◌, ◌+◌, ◌-◌, ◌*◌, get_or, sym, ap, ◌∙◌, arith, false-eqb}
+use Rattle.std.proofs.Common.{◌≡◌, ◌+◌, ◌-◌, ◌*◌, get_or, sym, ◌∙◌, arith, false-eqb}
 use Rattle.script.proofs.Numbering.{stops_at, stops_past, goes_past, all_read}
 use Rattle.script.proofs.numbers.read_number.Goals as goal
 

@@ -1,4 +1,4 @@
-use Rattle.std.proofs.Common.{◌≡◌, [], map, length, drop, sym, ap, ◌∙◌, arith, true-eqb}
+use Rattle.std.proofs.Common.{map, drop, sym, ap, ◌∙◌, true-eqb}
 use Rattle.std.proofs.lemmas.List.{take_rest, drop-map, nil_from_length}
 use Rattle.script.specs.Pieces.{seen}
 use Rattle.script.proofs.reader.after_first.Goals as goal

@@ -1,4 +1,4 @@
-use Rattle.std.proofs.Common.{◌≡◌, [], ◌∷◌, ◌++◌, string_bytes, decimal, sym, ap, ◌∙◌}
+use Rattle.std.proofs.Common.{[], ◌∷◌, ◌++◌, string_bytes, decimal, ap, ◌∙◌}
 use Rattle.script.proofs.Writing.{then_written}
 use Rattle.script.proofs.replies.write_fault.Goals as goal
 

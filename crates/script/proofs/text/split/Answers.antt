@@ -1,6 +1,6 @@
-use Rattle.std.proofs.Common.{◌≡◌, ◌+◌, ◌-◌, ◌≤◌, [], ◌∷◌, ◌++◌, map, length, take, drop, vec_items, sym, ap, ◌∙◌, arith}
+use Rattle.std.proofs.Common.{map, vec_items, sym, ap, ◌∙◌, arith}
 use Rattle.std.proofs.lemmas.List.{map_push, take_rest}
-use Rattle.script.specs.Pieces.{seen, cuts_at, pieces_after}
+use Rattle.script.specs.Pieces.{seen, cuts_at}
 use Rattle.script.proofs.Cutting.{goes_on, cut_here, last_part}
 use Rattle.script.proofs.text.split.Goals as goal
 use Rattle.script.proofs.text.split.Goals.{then-cuts+in_ok-push, else-cuts}

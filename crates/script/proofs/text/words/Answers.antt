@@ -1,9 +1,9 @@
-use Rattle.std.proofs.Common.{◌≡◌, List, [], ◌∷◌, ◌++◌, map, vec_items, filter, sym, ap, ◌∙◌, append-nil}
+use Rattle.std.proofs.Common.{◌++◌, map, vec_items, filter, sym, ap, ◌∙◌, append-nil}
 use Rattle.std.specs.Vec.Iter.{into_iter_items}
-use Rattle.std.proofs.lemmas.List.{map_push, nil_from_length}
+use Rattle.std.proofs.lemmas.List.{nil_from_length}
 use Rattle.script.specs.Pieces.{seen, some, pieces, cuts_at}
 use Rattle.script.specs.declared.text.Separator.TheVariants.{Blank}
-use Rattle.script.proofs.Cutting.{part_kept, part_passed}
+use Rattle.script.proofs.Cutting.{part_passed}
 use Rattle.script.proofs.text.words.Goals as goal
 
 pub loop-part-preserved : goal.loop-part-preserved

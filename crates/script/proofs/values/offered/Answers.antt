@@ -1,4 +1,3 @@
-use Rattle.std.proofs.Common.{◌≡◌}
 use Rattle.script.proofs.Offering.{offered_is}
 use Rattle.script.proofs.values.offered.Goals as goal
 

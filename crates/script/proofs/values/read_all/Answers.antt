@@ -1,4 +1,4 @@
-use Rattle.std.proofs.Common.{◌≡◌, ◌+◌, ◌++◌, map, drop, vec_items, sym, ap, ◌∙◌}
+use Rattle.std.proofs.Common.{◌+◌, ◌++◌, map, drop, vec_items, sym, ap, ◌∙◌}
 use Rattle.std.specs.Option.{option_map}
 use Rattle.script.specs.Numerals.{number_of}
 use Rattle.script.specs.Pieces.{seen}

@@ -1,4 +1,4 @@
-use Rattle.std.proofs.Common.{◌≡◌, map, length, vec_items, sym, ap, ◌∙◌}
+use Rattle.std.proofs.Common.{map, length, vec_items, sym, ap, ◌∙◌}
 use Rattle.std.proofs.lemmas.List.{length-map}
 use Rattle.script.specs.Numerals.{number_of}
 use Rattle.script.specs.Pieces.{seen}

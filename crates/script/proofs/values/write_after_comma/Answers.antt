@@ -1,4 +1,4 @@
-use Rattle.std.proofs.Common.{◌≡◌, [], ◌∷◌, ◌++◌, string_bytes, decimal, ap, ◌∙◌}
+use Rattle.std.proofs.Common.{[], ◌∷◌, ◌++◌, string_bytes, decimal, ap, ◌∙◌}
 use Rattle.script.proofs.Writing.{then_written}
 use Rattle.script.proofs.values.write_after_comma.Goals as goal
 

@@ -1,4 +1,4 @@
-use Rattle.std.proofs.Common.{◌≡◌, ◌++◌, get_or, string_bytes, decimal, sym, ap, ◌∙◌, arith, false-eqb}
+use Rattle.std.proofs.Common.{◌++◌, get_or, string_bytes, decimal, sym, ap, ◌∙◌, arith, false-eqb}
 use Rattle.script.proofs.Writing.{then_written, commaed_some}
 use Rattle.script.proofs.values.write_commaed.Goals as goal
 

@@ -1,4 +1,4 @@
-use Rattle.std.proofs.Common.{arith, rules}
+use Rattle.std.proofs.Common.{rules}
 use Rattle.script.proofs.values.write_commitment.Goals as goal
 
 pub returns : goal.returns

@@ -1,4 +1,4 @@
-use Rattle.std.proofs.Common.{◌≡◌, ◌++◌, string_bytes, ap, ◌∙◌}
+use Rattle.std.proofs.Common.{◌++◌, string_bytes, ap, ◌∙◌}
 use Rattle.script.specs.Values.{commaed}
 use Rattle.script.proofs.Back.{element_back}
 use Rattle.script.proofs.values.write_element.Goals as goal

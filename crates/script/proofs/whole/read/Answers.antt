@@ -1,4 +1,4 @@
-use Rattle.std.proofs.Common.{◌≡◌, map, vec_items, sym, ap, ◌∙◌, subst}
+use Rattle.std.proofs.Common.{map, vec_items, ap, ◌∙◌, subst}
 use Rattle.script.specs.Pieces.{line_of, words_of}
 use Rattle.script.specs.Reading.{ScriptRead}
 use Rattle.script.proofs.Taking.{lines_of}

@@ -1,4 +1,4 @@
-use Rattle.std.proofs.Common.{◌≡◌, map, vec_items, sym, ap, ◌∙◌, inl}
+use Rattle.std.proofs.Common.{map, vec_items, ap, inl}
 use Rattle.script.specs.Pieces.{line_of}
 use Rattle.script.specs.Rules.{state_view, statement_view}
 use Rattle.script.proofs.Taking.{line_taken, line_refused, lines_end, refused_told}
