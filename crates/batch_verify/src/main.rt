@@ -1,10 +1,10 @@
 // Reads batch scripts and prints their answers.
 #![tactic(auto)]
 
-use anyhow::anyhow;
 use elements::f257::F257;
 use script::replies::{answer, error_text};
 use std::io::Read;
+use std::process::ExitCode;
 use std::{env, fs};
 
 const HELP: &str = "batch_verify: reads batch scripts and prints a line for each answer
@@ -78,9 +78,9 @@ fn run_all(rt: &HostRuntime) -> anyhow::Result<bool> {
     Ok(all)
 }
 
-fn main(rt: HostRuntime) -> anyhow::Result<()> {
+fn main(rt: HostRuntime) -> anyhow::Result<ExitCode> {
     if run_all(&rt)? {
-        return Ok(());
+        return Ok(ExitCode::SUCCESS);
     }
-    Err(anyhow!("a script could not be read on"))
+    Ok(ExitCode::FAILURE)
 }
