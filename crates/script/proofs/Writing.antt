@@ -23,3 +23,7 @@ then_written s t u a b d e = e ∙ ap (λ l. l ++ b) d ∙ append_assoc s a b
 pub commaed_some : (ns : List ℕ) → 0 < length ns → commaed ns ≡ decimal (get_or ns 0 0) ++ flat_map comma_before (take (length ns - 1) (drop 1 ns))
 commaed_some [] h = absurd (omega arith)
 commaed_some (n ∷ ns) h = ap (λ l. decimal n ++ flat_map comma_before l) (sym (take_rest (n ∷ ns) 1))
+
+-- a text that was written into a new one is added in one piece
+pub piece_added : (old new piece fresh empty text : List ℕ) → new ≡ old ++ piece → piece ≡ fresh → fresh ≡ empty ++ text → empty ≡ [] → new ≡ old ++ text
+piece_added old new piece fresh empty text added is written none = added ∙ ap (λ l. old ++ l) (is ∙ written ∙ ap (λ l. l ++ text) none)

@@ -1,5 +1,5 @@
 // Numbers as decimal digits.
-ghost use Rattle.std.specs.Prelude.{◌≡◌, Some, string_bytes, decimal, OnOk};
+ghost use Rattle.std.specs.Prelude.{◌≡◌, Some, string_bytes, decimal, OnOk, OnErr};
 ghost use Rattle.script.specs.Numerals.{number_of};
 ghost use Rattle.script.specs.Values.{Wrote};
 
@@ -24,8 +24,10 @@ pub fn read_number(word: &[u8]) -> Option<u64>
     Some(number)
 }
 
+// Adds a number to a text; without memory for it nothing is added.
 pub fn write_number(heap: Global, out: &mut String, number: u64) -> Result<(), AllocError>
-    ensures { OnOk result (Wrote (string_bytes out.old) (string_bytes out.new) (decimal number) (number_of (decimal number) ≡ Some number)) }
+    ensures wrote { OnOk result (Wrote (string_bytes out.old) (string_bytes out.new) (decimal number) (number_of (decimal number) ≡ Some number)) }
+    ensures kept { OnErr result (string_bytes out.new ≡ string_bytes out.old) }
 {
     let digits = format!(in heap; "{number}")?;
     out.push_str(digits.as_str())?;

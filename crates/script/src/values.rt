@@ -1,5 +1,5 @@
 // Elements and commitments as words.
-ghost use Rattle.std.specs.Prelude.{◌≡◌, ◌++◌, map, IfOk, Some, vec_items, string_bytes, OnOk};
+ghost use Rattle.std.specs.Prelude.{◌≡◌, ◌++◌, map, IfOk, Some, vec_items, string_bytes, OnOk, OnErr};
 ghost use Rattle.std.specs.List.{flat_map};
 ghost use Rattle.std.specs.Option.{option_map};
 ghost use Rattle.std.specs.Result.{result_ok};
@@ -108,11 +108,15 @@ fn write_commaed(heap: Global, out: &mut String, numbers: &[u32]) -> Result<(), 
     Ok(())
 }
 
+// Adds an element to a text, in one piece; without memory for it nothing is added.
 pub fn write_element<E: Field>(heap: Global, out: &mut String, element: E) -> Result<(), AllocError>
-    ensures { OnOk result (Wrote (string_bytes out.old) (string_bytes out.new) (written_element E.Field.kind element)
+    ensures wrote { OnOk result (Wrote (string_bytes out.old) (string_bytes out.new) (written_element E.Field.kind element)
         (element_of E.Field.kind (written_element E.Field.kind element) ≡ Some (Some element))) }
+    ensures kept { OnErr result (string_bytes out.new ≡ string_bytes out.old) }
 {
     let coefficients = element.coefficients();
-    write_commaed(heap, out, coefficients.as_slice())?;
+    let mut text = String::new(heap);
+    write_commaed(heap, &mut text, coefficients.as_slice())?;
+    out.push_str(text.as_str())?;
     Ok(())
 }
