@@ -78,6 +78,6 @@ pub refused_told : {R : Type 0} (rule : Result (StateV R) What) (old said : List
     → (Err w ≡ rule) × (said ≡ old)
 refused_told rule old said e w h told = subst (λ f. Stepped rule old said (Err f)) h told
 
-pub lines_of : (xs : List (Bor (List ℕ))) → map line_of xs ≡ map words_of (map seen xs)
-lines_of [] = refl
-lines_of (x ∷ xs) = ap (λ l. words_of (seen x) ∷ l) (lines_of xs)
+pub map-line_of : (xs : List (Bor (List ℕ))) → map line_of xs ≡ map words_of (map seen xs)
+map-line_of [] = refl
+map-line_of (x ∷ xs) = ap (λ l. words_of (seen x) ∷ l) (map-line_of xs)
