@@ -135,6 +135,7 @@ NAMES = {
     "inverse-times": "inverse_times",
     "inverse-unique": "inverse_unique",
     "inverseAmong": "inverse_among",
+    "isApart": "is_apart",
     "isInverse": "is_inverse",
     "isOne": "is_one",
     "isRoot": "is_root",

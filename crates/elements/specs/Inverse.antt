@@ -1,5 +1,5 @@
 -- What has an inverse, in any kind. Assumes nothing.
-use Rattle.std.specs.Prelude.{◌≡◌, ℕ, zero, suc, [], ◌∷◌, Some, None, Option, refl}
+use Rattle.std.specs.Prelude.{◌≡◌, ℕ, zero, suc, T, [], ◌∷◌, is_some, Some, None, Option, refl}
 use Rattle.std.proofs.Common.{sym, ap, ◌∙◌}
 use Rattle.elements.specs.Facts.{DividesPowers, DivisorInvertible, InversePresent, InverseUnique}
 use Rattle.elements.specs.Kind.{Kind, pow, less, Invertible, Inverse}
@@ -11,6 +11,10 @@ use Rattle.elements.specs.Solver.{var, nought, unit, sum, product, negated, diff
 module _ {R : Type 0} (k : Kind R) where
   pub moved : (x y : R) → x ≡ y → Invertible k y → Invertible k x
   moved x y e h = (h.0, ap (λ z. k.times z h.0) e ∙ h.1)
+
+  pub invertible : (x : R) (o : Option R) → Inverse k x o → T (is_some o) → Invertible k x
+  invertible x None h t = absurd t
+  invertible x (Some y) h t = (y, h)
 
   pub inverse_present : InversePresent k
   inverse_present x None h none = absurd (none h.0 h.1)

@@ -1,19 +1,20 @@
 -- The kind F257 keeps the laws of a field kind. Assumes nothing.
-use Rattle.std.specs.Prelude.{◌≡◌, ℕ, ◌-◌, ◌*◌, ◌%◌, ◌<◌, Bool, T, List, [], ◌∷◌, length, Some, None, Option, ◌==◌, slice_index, refl}
+use Rattle.std.specs.Prelude.{◌≡◌, ℕ, ◌-◌, ◌*◌, ◌%◌, ◌^◌, ◌<◌, ◌≤◌, Bool, T, List, [], ◌∷◌, length, is_some, Some, None, Option, ◌==◌, slice_index, refl}
 use Rattle.std.proofs.Common.{ap, sym, subst, ◌∙◌, mod-eq_of_lt, arith, eqb→eq, lit<, lit≤}
 use Rattle.std.proofs.Math.Dec.{eqb_refl}
 use Rattle.std.proofs.lemmas.List.Elements.{All-nil, All-cons, All-head}
 use Rattle.std.specs.Option.{option_map}
-use Rattle.elements.specs.Kind.{Laws, Ranges, Coordinates, Roots, Canonical, Inverse}
+use Rattle.elements.specs.Kind.{Laws, Ranges, Coordinates, Roots, Canonical, Inverse, Invertible, less, pow, root_of}
 use Rattle.elements.specs.Mod257.{of, f257}
 use Rattle.elements.specs.Operations.{operations}
 use Rattle.elements.specs.declared.f257.F257.{F257}
-use Rattle.elements.specs.KindRing.{ring_kept}
+use Rattle.elements.specs.Below.{all_below, below_at, unless_first, unless_first_passes}
+use Rattle.elements.specs.Inverse.{invertible}
 use Rattle.elements.specs.Least.{Found, least_found}
 use Rattle.elements.specs.ModLemmas.{mul_mod_mod}
-use Rattle.elements.specs.Ring257.{same, of_value, f257_ring, f257_embeds}
+use Rattle.elements.specs.Ring257.{same, of_value, residues_ring, f257_ring, f257_embeds}
 use Rattle.elements.specs.RingFacts.{one_times}
-use Rattle.elements.specs.Squares.{squared_is_onward, squared_roots}
+use Rattle.elements.specs.Squares.{squared_is_onward, root_below, root_square}
 
 ranges : Ranges f257
 ranges = record {
@@ -39,7 +40,7 @@ coordinates = record {
   canonical = λ v. (refl, All-cons (λ n. n < 257) v.value [] v.below (All-nil (λ n. n < 257)));
   back = of_value;
   forth = λ cs h. ap (λ n. n ∷ []) (mod-eq_of_lt (head_below cs h)) ∙ (single cs h.0 (head_below cs h)).1;
-  powers = λ v. sym (f257_ring.plus_zero (f257.times f257.one (of v.value)) ∙ one_times (operations f257) f257_ring (of v.value) ∙ of_value v);
+  powers = λ v. sym (f257_ring.plus_zero (f257.times f257.one (of v.value)) ∙ one_times (operations f257) residues_ring (of v.value) ∙ of_value v);
 }
 
 abbrev inverts : F257 → ℕ → Bool
@@ -52,14 +53,39 @@ found_inverse v (Some n) h = same _ _ (mul_mod_mod v.value n 257 ∙ eqb→eq ((
 inverses : (v : F257) → Inverse f257 v (f257.inverse v)
 inverses v = found_inverse v _ (least_found (inverts v) 257)
 
--- w(1) - 1 is 255, and 255·128 is 1
+-- w(n)^i - 1
+abbrev apart : ℕ → ℕ → F257
+apart n i = less f257 (pow f257 (root_of f257 n) i) f257.one
+
+-- it has an inverse, but at 0
+abbrev is_apart : ℕ → ℕ → Bool
+is_apart n i = unless_first i (is_some (f257.inverse (apart n i)))
+
+abbrev row_apart : ℕ → Bool
+row_apart n = all_below (is_apart n) (2 ^ n)
+
+all_apart : T (all_below row_apart 6)
+all_apart = tt
+
+root_apart : (n i : ℕ) → n ≤ 5 → 0 < i → i < 2 ^ n → Invertible f257 (apart n i)
+root_apart n i h pos top =
+    invertible f257 (apart n i) (f257.inverse (apart n i)) (inverses (apart n i))
+    (unless_first_passes i _ (below_at (is_apart n) (2 ^ n) i (below_at row_apart 6 n all_apart (omega arith)) top) pos)
+
 roots : Roots f257
-roots = squared_roots f257 9 (lit< tt) (λ n. squared_is_onward 257 9 (7 - n)) f257_ring f257_embeds ranges (same _ _ refl) (of 128, same _ _ refl) (lit< tt) (of 86, same _ _ refl)
+roots = record {
+  shift_below = lit< tt;
+  shift_invertible = (of 86, same _ _ refl);
+  root_below = λ n h. root_below f257 9 (lit< tt) (λ m. squared_is_onward 257 9 (7 - m)) n;
+  root_first = same _ _ refl;
+  root_square = root_square f257 9 (lit< tt) (λ m. squared_is_onward 257 9 (7 - m)) f257_embeds;
+  root_apart = root_apart;
+}
 
 pub f257_laws : Laws f257
 f257_laws = record {
   ranges = ranges;
-  ring = ring_kept f257 f257_ring;
+  ring = f257_ring;
   embeds = f257_embeds;
   coordinates = coordinates;
   inverses = inverses;

@@ -3,7 +3,8 @@ use Rattle.std.specs.Prelude.{◌≡◌, ℕ, ◌+◌, ◌*◌, refl}
 use Rattle.std.proofs.Common.{◌∙◌}
 use mathlib.Core.HLevel.{is_prop→PathP}
 use Rattle.std.proofs.Math.Bridge.{le_prop}
-use Rattle.elements.specs.Kind.{Embeds}
+use Rattle.elements.specs.Kind.{Ring, Embeds}
+use Rattle.elements.specs.KindRing.{ring_kept}
 use Rattle.elements.specs.Operations.{CommutativeRing, operations}
 use Rattle.elements.specs.Mod257.{of, f257}
 use Rattle.elements.specs.Residues.{Represents, residue_ring, of_mod, of_one_to_one, of_plus, of_times}
@@ -23,8 +24,11 @@ represents = record { value_of = λ n. refl; below = λ x. x.below; same = same 
 pub of_value : (x : F257) → of x.value ≡ x
 of_value = value_back 257 number of represents
 
-pub f257_ring : CommutativeRing (operations f257)
-f257_ring = residue_ring 257 number of represents
+pub residues_ring : CommutativeRing (operations f257)
+residues_ring = residue_ring 257 number of represents
+
+pub f257_ring : Ring f257
+f257_ring = ring_kept f257 residues_ring
 
 pub f257_embeds : Embeds f257
 f257_embeds = record {

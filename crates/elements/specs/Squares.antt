@@ -21,10 +21,10 @@ squared_is_onward p y (suc n) = ap (λ m. (m * m) % p) (squared_is_onward p y n)
 
 -- y is the last root, and each before it the square of the next
 module _ {R : Type 0} (k : Kind R) (y : ℕ) (below : y < k.modulus) (is : (n : ℕ) → k.root n ≡ squared_onward k.modulus y (k.limit - n)) where
-  root_below : (n : ℕ) → k.root n < k.modulus
+  pub root_below : (n : ℕ) → k.root n < k.modulus
   root_below n = subst (λ (m : ℕ). m < k.modulus) (sym (is n)) (squared_below k.modulus y (k.limit - n) below)
 
-  root_square : Embeds k → (n : ℕ) → n < k.limit → k.times (root_of k (suc n)) (root_of k (suc n)) ≡ root_of k n
+  pub root_square : Embeds k → (n : ℕ) → n < k.limit → k.times (root_of k (suc n)) (root_of k (suc n)) ≡ root_of k n
   root_square e n h =
       let r = k.root (suc n) in
       let s : suc (k.limit - suc n) ≡ k.limit - n = omega arith in

@@ -3,7 +3,7 @@ use Rattle.elements.specs.Mod257.{f257}
 use Rattle.elements.specs.declared.f257.F257.{F257}
 use Rattle.elements.specs.Inverse.{same_inverse}
 use Rattle.elements.specs.Laws257.{f257_laws}
-use Rattle.elements.specs.Ring257.{same, f257_ring}
+use Rattle.elements.specs.Ring257.{same, residues_ring}
 use Rattle.elements.proofs.f257.kind.F257Field.try_inverse.Goals as goal
 
 -- no product with 0 is 1
@@ -17,10 +17,10 @@ no_inverse x y z e =
 pub returns-then-self-eq0 : goal.returns-then-self-eq0
 returns-then-self-eq0 c =
     let x = c.args.self in
-    same_inverse f257 f257_ring x _ _ (λ y e. no_inverse x y c.if-self-eq0.true e) (f257_laws.inverses x)
+    same_inverse f257 residues_ring x _ _ (λ y e. no_inverse x y c.if-self-eq0.true e) (f257_laws.inverses x)
 
 pub returns : goal.returns
 returns c =
     let x = c.args.self in
     let pos : 0 < x.value = omega arith in
-    same_inverse f257 f257_ring x _ _ (same _ _ (c.listed_inverse-value.ensures.times pos)) (f257_laws.inverses x)
+    same_inverse f257 residues_ring x _ _ (same _ _ (c.listed_inverse-value.ensures.times pos)) (f257_laws.inverses x)
