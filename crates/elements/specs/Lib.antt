@@ -1,3 +1,4 @@
+-- definitions
 pub mod Bear
 pub mod Extension
 pub mod Facts
@@ -8,22 +9,23 @@ pub mod Norm
 pub mod Numbers
 pub mod Operations
 pub mod Sums
+-- the lemmas on which the laws of the kinds rest, and the laws: no clause cites them
 pub mod BearLaws
 pub mod BearProduct
 pub mod BearRing
-pub mod Residues
-pub mod ModLemmas
-pub mod FourRing
-pub mod Solver
 pub mod Below
-pub mod RingFacts
 pub mod Digits
 pub mod Folds
-pub mod KindRing
-pub mod Least
-pub mod Squares
-pub mod RootFacts
+pub mod FourRing
 pub mod Inverse
-pub mod Powers
+pub mod KindRing
 pub mod Laws257
+pub mod Least
+pub mod ModLemmas
+pub mod Powers
+pub mod Residues
 pub mod Ring257
+pub mod RingFacts
+pub mod RootFacts
+pub mod Solver
+pub mod Squares

@@ -40,7 +40,7 @@ fn element(a: u64, b: u64, c: u64, d: u64) -> BabyBear
     }
 }
 
-// x to the power n, by repeated squaring: what `exp_u64` is for every kind, before BabyBear is one.
+// x to the power n, by repeated squaring. `exp_u64` is for kinds, and BabyBear becomes one only below, with the help of this.
 fn power(x: BabyBear, n: u64) -> BabyBear
     ensures { result ≡ pow babybear x n }
 {

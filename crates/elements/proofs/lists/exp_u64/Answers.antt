@@ -1,8 +1,8 @@
-use Rattle.std.proofs.Common.{◌≡◌, zero, ◌/◌, sym, ap, ◌∙◌, arith}
+use Rattle.std.proofs.Common.{◌≡◌, zero, sym, ap, ◌∙◌, arith}
 use Rattle.elements.specs.Kind.{pow}
 use Rattle.elements.specs.Operations.{operations}
 use Rattle.elements.specs.KindRing.{ring_of}
-use Rattle.elements.specs.Powers.{pow_odd, pow_even}
+use Rattle.elements.specs.Powers.{turn_odd, pow_even}
 use Rattle.elements.specs.RingFacts.{one_times}
 use Rattle.elements.proofs.lists.exp_u64.Goals as goal
 use Rattle.elements.proofs.lists.exp_u64.Goals.{then-left-eq1, else-left-eq1}
@@ -15,9 +15,7 @@ loop-left-preserved g c =
     let n = c.loop-left.left in
     elim c.if-left-eq1.branch [
       | then-left-eq1 w ↦
-          let e = pow_odd k r b n (omega arith) in
-          let a = r.times_assoc c.loop-left.power b (pow k (k.times b b) (n / 2)) in
-          cc
+          let e = turn_odd k r c.loop-left.power b n (omega arith) in cc
       | else-left-eq1 w ↦ let e = pow_even k r b n (omega arith) in cc
     ]
 
