@@ -2,7 +2,7 @@
 #![tactic(auto)]
 
 use elements::f257::F257;
-use script::replies::{answer, error_text};
+use script::replies::answer;
 use std::io::Read;
 use std::process::ExitCode;
 use std::{env, fs};
@@ -27,20 +27,11 @@ A script in short (docs/SCRIPT.md has the whole form):
   open COMMIT MATRIX B ELEMENT            prints the columns' values at the point
 ";
 
-// Prints what a script answers; false where it cannot be read on.
+// Prints what a script answers; false where it cannot be read on. A bool, since `main` asks nothing but whether all were read.
 fn run(rt: &HostRuntime, text: &[u8]) -> anyhow::Result<bool> {
-    let heap = rt.alloc();
-    let answers = answer::<F257>(heap, text)?;
-    for line in answers.lines.iter() {
-        rt.println(line.as_str())?;
-    }
-    match answers.error {
-        None => Ok(true),
-        Some(error) => {
-            rt.println(error_text(heap, error)?)?;
-            Ok(false)
-        }
-    }
+    let answers = answer::<F257>(rt.alloc(), text)?;
+    rt.print(&answers)?;
+    Ok(answers.error.is_none())
 }
 
 fn run_input(rt: &HostRuntime) -> anyhow::Result<bool> {
@@ -61,19 +52,18 @@ fn run_file(rt: &HostRuntime, name: &str) -> anyhow::Result<bool> {
 }
 
 fn run_all(rt: &HostRuntime) -> anyhow::Result<bool> {
+    let mut names = env::args(rt)?.skip(1).peekable();
+    if names.peek().is_none() {
+        return run_input(rt);
+    }
     let mut all = true;
-    let mut files = 0u64;
-    for name in env::args(rt)?.skip(1) {
+    for name in names {
         if name.as_str() == "--help" {
             rt.print(HELP)?;
             return Ok(true);
         }
-        files = files.saturating_add(1);
         let right = run_file(rt, name.as_str())?;
         all = all && right;
-    }
-    if files == 0 {
-        return run_input(rt);
     }
     Ok(all)
 }

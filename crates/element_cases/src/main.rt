@@ -1,7 +1,7 @@
 // Sums, products and inverses of elements: reads a table of questions and prints each with its answer.
 #![tactic(auto)]
 
-use anyhow::anyhow;
+use anyhow::{Context, anyhow};
 use elements::babybear::BabyBear;
 use elements::babybear::kind::x_times_x_cubed;
 use elements::f257::F257;
@@ -22,73 +22,54 @@ fn operand<E: Field>(heap: Global, word: &str) -> anyhow::Result<E> {
 }
 
 fn number(word: &str) -> anyhow::Result<u64> {
-    match read_number(word.as_bytes()) {
-        Some(number) => Ok(number),
-        None => Err(anyhow!("a word is no number")),
-    }
+    read_number(word.as_bytes()).context("a word is no number")
 }
 
 fn at_most_32_bits(word: &str) -> anyhow::Result<u32> {
-    let wide = number(word)?;
-    if wide <= u32::MAX as u64 {
-        return Ok(wide as u32);
-    }
-    Err(anyhow!("a number does not fit 32 bits"))
+    u32::try_from(number(word)?)
+        .ok()
+        .context("a number does not fit 32 bits")
 }
 
 // The answer to a question with these words, where there is one.
 fn answer<E: Field>(heap: Global, words: &[&str]) -> anyhow::Result<Option<E>> {
-    if words.len() < 2 {
-        return Err(anyhow!("a line has too few words"));
-    }
-    let (question, first) = (words[0], words[1]);
-    match question {
-        "inverse" => return Ok(operand::<E>(heap, first)?.try_inverse()),
-        "negation" => return Ok(Some(operand::<E>(heap, first)?.neg())),
-        "root" => return Ok(E::two_adic_generator(number(first)? as usize)),
-        "basis" => return Ok(Some(E::basis_power(number(first)?))),
-        "embed" => return Ok(Some(E::from_u32(at_most_32_bits(first)?))),
-        _ => {}
-    }
-    if words.len() < 3 {
-        return Err(anyhow!("a line has too few words"));
-    }
-    let a = operand::<E>(heap, first)?;
-    match question {
-        "sum" => Ok(Some(a.add(operand(heap, words[2])?))),
-        "difference" => Ok(Some(a.sub(operand(heap, words[2])?))),
-        "product" => Ok(Some(a.mul(operand(heap, words[2])?))),
-        "power" => Ok(Some(exp_u64(a, number(words[2])?))),
-        _ => Err(anyhow!("a line asks for nothing known")),
+    let element = |word: &str| operand::<E>(heap, word);
+    match words {
+        ["inverse", a, ..] => Ok(element(a)?.try_inverse()),
+        ["negation", a, ..] => Ok(Some(element(a)?.neg())),
+        ["root", bits, ..] => Ok(E::two_adic_generator(number(bits)? as usize)),
+        ["basis", e, ..] => Ok(Some(E::basis_power(number(e)?))),
+        ["embed", n, ..] => Ok(Some(E::from_u32(at_most_32_bits(n)?))),
+        [] | [_] | [_, _] => Err(anyhow!("a line has too few words")),
+        ["sum", a, b, ..] => Ok(Some(element(a)?.add(element(b)?))),
+        ["difference", a, b, ..] => Ok(Some(element(a)?.sub(element(b)?))),
+        ["product", a, b, ..] => Ok(Some(element(a)?.mul(element(b)?))),
+        ["power", a, n, ..] => Ok(Some(exp_u64(element(a)?, number(n)?))),
+        [_, a, ..] => {
+            element(a)?;
+            Err(anyhow!("a line asks for nothing known"))
+        }
     }
 }
 
 fn show<E: Field>(rt: &HostRuntime, words: &[&str], line: &str) -> anyhow::Result<()> {
     let heap = rt.alloc();
-    let mut text = String::from_str(heap, line)?;
+    let mut text = String::new(heap);
     match answer::<E>(heap, words)? {
-        None => text.push_str(" = none")?,
-        Some(value) => {
-            text.push_str(" = ")?;
-            write_element(heap, &mut text, value)?;
-        }
+        None => text.push_str("none")?,
+        Some(value) => write_element(heap, &mut text, value)?,
     }
-    rt.println(text.as_str())?;
+    println!(rt; "{line} = {text}")?;
     Ok(())
 }
 
 // A line is a field, a question and its operands.
 fn show_line(rt: &HostRuntime, line: &str) -> anyhow::Result<()> {
-    let mut words = Vec::new(rt.alloc());
-    for word in line.split_whitespace() {
-        words.push(word)?;
-    }
-    if words.is_empty() {
-        return Ok(());
-    }
-    match words[0] {
-        "babybear" => show::<BabyBear>(rt, &words[1..], line),
-        "f257" => show::<F257>(rt, &words[1..], line),
+    let words: Vec<&str> = line.split_whitespace().collect(rt.alloc())?;
+    match words.as_slice() {
+        [] => Ok(()),
+        ["babybear", question @ ..] => show::<BabyBear>(rt, question, line),
+        ["f257", question @ ..] => show::<F257>(rt, question, line),
         _ => Err(anyhow!("a line names no field")),
     }
 }
@@ -106,9 +87,9 @@ fn show_all(rt: &HostRuntime) -> anyhow::Result<()> {
     consequences::<F257>();
     consequences::<BabyBear>();
     let heap = rt.alloc();
-    let mut text = String::from_str(heap, "x*x^3 = ")?;
+    let mut text = String::new(heap);
     write_element(heap, &mut text, x_times_x_cubed())?;
-    rt.println(text.as_str())?;
+    println!(rt; "x*x^3 = {text}")?;
     for name in env::args(rt)?.skip(1) {
         show_file(rt, name.as_str())?;
     }

@@ -2,8 +2,9 @@
 use Rattle.std.proofs.Common.{◌≡◌, ℕ, ◌+◌, ◌*◌, ◌/◌, ◌%◌, List, [], ◌∷◌, sym, ap, ◌∙◌, subst}
 use native.Mathlib.Nat.{div-add-mod, dvd-mod_iff, dvd-add_iff_right, dvd-mul_right_of_dvd, eq-one_of_dvd-one}
 use Rattle.elements.specs.Bear.{p, of, base}
-use Rattle.elements.specs.declared.babybear.BaseNumber.{BaseNumber}
-use Rattle.elements.specs.BearRing.{base_ring, base_plus, base_times}
+use Rattle.elements.specs.declared.residue.Residue.{Residue}
+use Rattle.elements.specs.BearProduct.{base_ring}
+use Rattle.elements.specs.ResidueRing.{of_plus, of_times}
 use Rattle.elements.specs.Solver.{var, sum, product, difference, solve}
 
 -- a divides b
@@ -11,13 +12,13 @@ abbrev pub Divides : ℕ → ℕ → Type 0
 Divides a b = ∥ ((c : ℕ) × (b ≡ a * c)) ∥₁
 
 -- one turn keeps n·t = b
-pub turn : (n a b : ℕ) (s t : BaseNumber) → base.times (of n) s ≡ of a → base.times (of n) t ≡ of b
+pub turn : (n a b : ℕ) (s t : Residue p) → base.times (of n) s ≡ of a → base.times (of n) t ≡ of b
     → base.times (of n) (base.plus s (base.minus (base.times (of (a / b)) t))) ≡ of (a % b)
 turn n a b s t e f =
     let q = a / b in
-    let ρ : List BaseNumber = of n ∷ s ∷ of q ∷ t ∷ of b ∷ of (a % b) ∷ [] in
+    let ρ : List (Residue p) = of n ∷ s ∷ of q ∷ t ∷ of b ∷ of (a % b) ∷ [] in
     let split : of a ≡ base.plus (base.times (of b) (of q)) (of (a % b))
-    = ap of (sym (div-add-mod a b)) ∙ base_plus (b * q) (a % b) ∙ ap (λ x. base.plus x (of (a % b))) (base_times b q) in
+    = ap of (sym (div-add-mod a b)) ∙ of_plus p tt (b * q) (a % b) ∙ ap (λ x. base.plus x (of (a % b))) (of_times p tt b q) in
     solve base base_ring ρ
     (product (var 0) (difference (var 1) (product (var 2) (var 3))))
     (difference (product (var 0) (var 1)) (product (var 2) (product (var 0) (var 3)))) tt

@@ -1,6 +1,6 @@
 -- Sums and products of lists of elements. Assumes nothing.
 use Rattle.std.proofs.Common.{◌≡◌, List, [], ◌∷◌, ◌++◌, map, length, sym, refl, ap, ◌∙◌}
-use Rattle.std.specs.List.{All}
+use Rattle.std.specs.List.{All, fold}
 use Rattle.std.proofs.lemmas.List.Elements.{All-head, All-tail}
 use Rattle.elements.specs.Kind.{Kind, pow, total, Invertible}
 use Rattle.elements.specs.Operations.{CommutativeRing, operations}
@@ -17,6 +17,14 @@ module _ {R : Type 0} (k : Kind R) (l : CommutativeRing (operations k)) where
 
   pub total_push : (vs : List R) (v : R) → total k (vs ++ (v ∷ [])) ≡ k.plus (total k vs) v
   total_push vs v = total_append vs (v ∷ []) ∙ ap (k.plus (total k vs)) (l.plus_zero v)
+
+  -- added up from the first on
+  fold_plus : (acc : R) (vs : List R) → fold k.plus acc vs ≡ k.plus acc (total k vs)
+  fold_plus acc [] = sym (l.plus_zero acc)
+  fold_plus acc (v ∷ vs) = fold_plus (k.plus acc v) vs ∙ l.plus_assoc acc v (total k vs)
+
+  pub fold_total : (vs : List R) → fold k.plus k.zero vs ≡ total k vs
+  fold_total vs = fold_plus k.zero vs ∙ zero_plus (operations k) l (total k vs)
 
   -- a common factor
   pub total_scaled : {X : Type 0} (y : R) (f : X → R) (xs : List X) → total k (map (λ x. k.times y (f x)) xs) ≡ k.times y (total k (map f xs))
@@ -49,6 +57,14 @@ module _ {R : Type 0} (k : Kind R) (l : CommutativeRing (operations k)) where
 
   pub product_push : (vs : List R) (v : R) → product k (vs ++ (v ∷ [])) ≡ k.times (product k vs) v
   product_push vs v = product_append vs (v ∷ []) ∙ ap (k.times (product k vs)) (l.times_one v)
+
+  -- multiplied from the first on
+  fold_times : (acc : R) (vs : List R) → fold k.times acc vs ≡ k.times acc (product k vs)
+  fold_times acc [] = sym (l.times_one acc)
+  fold_times acc (v ∷ vs) = fold_times (k.times acc v) vs ∙ l.times_assoc acc v (product k vs)
+
+  pub fold_product : (vs : List R) → fold k.times k.one vs ≡ product k vs
+  fold_product vs = fold_times k.one vs ∙ one_times (operations k) l (product k vs)
 
   pub product_times : {X : Type 0} (f g : X → R) (xs : List X) → product k (map (λ x. k.times (f x) (g x)) xs) ≡ k.times (product k (map f xs)) (product k (map g xs))
   product_times f g [] = sym (l.times_one k.one)

@@ -1,30 +1,24 @@
 -- The kind BabyBear: four numbers modulo p, the coefficients of 1, x, x^2 and x^3, with x^4 = 11. Assumes nothing.
 use Rattle.std.specs.Prelude.{ℕ, ◌+◌, ◌-◌, ◌*◌, ◌/◌, ◌%◌, ◌^◌, Bool, ◌&&◌, [], ◌∷◌, ◌==◌, slice_index}
-use Rattle.std.proofs.Common.{mod-lt, lit<}
 use Rattle.elements.specs.Extension.{Four, mul4}
 use Rattle.elements.specs.Kind.{Kind}
+use Rattle.elements.specs.Modulo.{residue, residues}
 use Rattle.elements.specs.Numbers.{squared_onward}
 use Rattle.elements.specs.Operations.{Operations, inverse_among}
-use Rattle.elements.specs.declared.babybear.BaseNumber.{BaseNumber}
 use Rattle.elements.specs.declared.babybear.BabyBear.{BabyBear}
+use Rattle.elements.specs.declared.residue.Residue.{Residue}
 
 -- 15·2^27 + 1
 abbrev pub p : ℕ
 p = 2013265921
 
 -- a number read modulo p
-abbrev pub of : ℕ → BaseNumber
-of n = record { value = n % p; below = mod-lt n (lit< tt) }
+abbrev pub of : ℕ → Residue p
+of = residue p tt
 
 -- the ring of base numbers
-unfoldable pub base : Operations BaseNumber
-base = record {
-  zero = of 0;
-  one = of 1;
-  plus = λ x y. of (x.value + y.value);
-  times = λ x y. of (x.value * y.value);
-  minus = λ x. of (p - x.value);
-}
+abbrev pub base : Operations (Residue p)
+base = residues p tt
 
 -- the element with these coefficients, each read modulo p
 abbrev pub bear : ℕ → ℕ → ℕ → ℕ → BabyBear
@@ -36,7 +30,7 @@ bear_of a = bear a.c0 a.c1 a.c2 a.c3
 abbrev pub numbers : BabyBear → Four ℕ
 numbers a = record { c0 = a.c0.value; c1 = a.c1.value; c2 = a.c2.value; c3 = a.c3.value }
 
-abbrev pub coordinates : BabyBear → Four BaseNumber
+abbrev pub coordinates : BabyBear → Four (Residue p)
 coordinates a = record { c0 = a.c0; c1 = a.c1; c2 = a.c2; c3 = a.c3 }
 
 abbrev pub times : BabyBear → BabyBear → BabyBear

@@ -4,18 +4,18 @@ use Rattle.std.proofs.Common.{ap, sym, subst, ◌∙◌, mod-eq_of_lt, arith, eq
 use Rattle.std.proofs.lemmas.List.Elements.{All-nil, All-cons, All-get_or}
 use Rattle.elements.specs.Bear.{p, of, base, bear, times, coordinates, is_one, numbered, babybear}
 use Rattle.elements.specs.Kind.{Laws, Ranges, Embeds, Coordinates, Roots, Canonical, Invertible, less, root_of, evaluated}
+use Rattle.elements.specs.Modulo.{residues}
 use Rattle.elements.specs.Operations.{Operations, CommutativeRing, operations}
 use Rattle.elements.specs.declared.babybear.BabyBear.{BabyBear}
-use Rattle.elements.specs.declared.babybear.BaseNumber.{BaseNumber}
-use Rattle.elements.specs.BearProduct.{bear_ring, joined, times_is}
-use Rattle.elements.specs.BearRing.{same, number, represents, base_ring, base_plus, base_times}
+use Rattle.elements.specs.declared.residue.Residue.{Residue}
+use Rattle.elements.specs.BearProduct.{base_ring, bear_ring, joined, times_is}
 use Rattle.elements.specs.Below.{both_left, both_right}
 use Rattle.elements.specs.Digits.{low_digit, high_digit, digits_below}
 use Rattle.elements.specs.Folds.{evaluated_cons}
 use Rattle.elements.specs.FourRing.{four_ring, alone_times, horner4}
 use Rattle.elements.specs.KindRing.{ring_kept}
 use Rattle.elements.specs.Least.{Candidates, inverse_among_inverts}
-use Rattle.elements.specs.Residues.{of_mod, of_one_to_one}
+use Rattle.elements.specs.ResidueRing.{same, of_mod, of_one_to_one, of_plus, of_times}
 use Rattle.elements.specs.Squares.{squared_roots}
 
 -- two elements with the same coefficients are equal
@@ -36,7 +36,7 @@ L : CommutativeRing bear_ring
 L = four_ring base base_ring (of 11)
 
 joined_ring : CommutativeRing (with_times joined_times)
-unfolding base
+unfolding residues
 joined_ring = record {
   plus_comm = λ a b. ap joined (L.plus_comm (coordinates a) (coordinates b));
   plus_assoc = λ a b c. ap joined (L.plus_assoc (coordinates a) (coordinates b) (coordinates c));
@@ -62,17 +62,17 @@ ranges = record {
 }
 
 -- the element of a base number
-abbrev alone' : BaseNumber → BabyBear
+abbrev alone' : Residue p → BabyBear
 alone' x = record { c0 = x; c1 = of 0; c2 = of 0; c3 = of 0 }
 
 embeds : Embeds babybear
-unfolding base
+unfolding residues
 embeds = record {
-  modulo = λ n. ap alone' (of_mod p number of represents n);
-  one_to_one = λ m n hm hn e. of_one_to_one p number of represents m n hm hn (ap (λ (v : BabyBear). v.c0) e);
-  sums = λ m n hm hn. ap alone' (of_mod p number of represents (m + n) ∙ base_plus m n);
+  modulo = λ n. ap alone' (of_mod p tt n);
+  one_to_one = λ m n hm hn e. of_one_to_one p tt m n hm hn (ap (λ (v : BabyBear). v.c0) e);
+  sums = λ m n hm hn. ap alone' (of_mod p tt (m + n) ∙ of_plus p tt m n);
   products = λ m n hm hn.
-      ap alone' (of_mod p number of represents (m * n) ∙ base_times m n)
+      ap alone' (of_mod p tt (m * n) ∙ of_times p tt m n)
       ∙ sym (times_is (bear m 0 0 0) (bear n 0 0 0) ∙ ap joined (alone_times base base_ring (of 11) (of m) (of n)));
 }
 
@@ -104,7 +104,7 @@ abbrev nested : BabyBear → (BabyBear → BabyBear → BabyBear) → BabyBear
 nested v t = onto t v.c0.value (onto t v.c1.value (onto t v.c2.value (onto t v.c3.value babybear.zero)))
 
 nested_is : (v : BabyBear) → nested v joined_times ≡ v
-unfolding base
+unfolding residues
 nested_is v = ap joined (horner4 base base_ring (of 11) (of v.c0.value) (of v.c1.value) (of v.c2.value) (of v.c3.value)) ∙ value_back v
 
 powers : (v : BabyBear) → evaluated babybear babybear.x (map babybear.embed (babybear.coefficients v)) ≡ v
@@ -187,7 +187,7 @@ candidates = record { one_passes = tt; passes_one = one_told; number = n0; below
 
 -- w(1) - 1 is -2, and -2·1006632960 is 1
 apart : Invertible babybear (less babybear (root_of babybear 1) babybear.one)
-unfolding base
+unfolding residues
 apart = (bear 1006632960 0 0 0, alike _ _ refl refl refl refl)
 
 -- 31·64944062 is 1

@@ -1,5 +1,5 @@
 -- A fault as users know it: its number, its word and its fields. Assumes nothing.
-use Rattle.std.specs.Prelude.{◌≡◌, ℕ, List, [], Some, None, Ok, Err, codes, Option, Result}
+use Rattle.std.specs.Prelude.{◌≡◌, ℕ, List, [], ◌∷◌, ◌++◌, Some, None, Ok, Err, codes, decimal, Option, Result}
 use Rattle.elements.specs.Kind.{Kind, Canonical}
 use Rattle.elements.specs.declared.fault.FaultValue.{FaultValue}
 use Rattle.elements.specs.declared.fault.FaultField.{FaultField}
@@ -14,6 +14,10 @@ pub record FaultV : Type 0 where
 
 abbrev pub field_view : FaultField → List ℕ × FaultValue
 field_view f = (f.name.now, f.value)
+
+-- a fault's number and its word
+abbrev pub fault_text_of : FaultV → List ℕ
+fault_text_of f = decimal f.number ++ (32 ∷ f.word)
 
 -- the fault of an answer, where it is one
 abbrev pub refusal : {T E : Type 0} → (E → FaultV) → Result T E → Option FaultV

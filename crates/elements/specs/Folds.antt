@@ -3,15 +3,11 @@ use Rattle.std.specs.Prelude.{◌≡◌, ℕ, suc, List, [], ◌∷◌, ◌++◌
 use Rattle.std.proofs.Common.{sym, ap, ◌∙◌}
 use mathlib.Core.List.{reverse-cons, reverse-append}
 use Rattle.std.proofs.lemmas.List.{nil_from_length}
+use Rattle.std.proofs.lemmas.List.Sums.{fold-append}
 use Rattle.elements.specs.Kind.{Kind, pow, terms, total, evaluated}
 use Rattle.elements.specs.Operations.{CommutativeRing, operations}
 use Rattle.elements.specs.Sums.{fold}
 use Rattle.elements.specs.RingFacts.{one_times, times_zero}
-
-module _ {R : Type 0} (k : Kind R) where
-  fold_append : (y acc : R) (cs ds : List R) → fold k y acc (cs ++ ds) ≡ fold k y (fold k y acc cs) ds
-  fold_append y acc [] ds = refl
-  fold_append y acc (c ∷ cs) ds = fold_append y (k.plus (k.times acc y) c) cs ds
 
 module _ {R : Type 0} (k : Kind R) (l : CommutativeRing (operations k)) where
   -- each term has one more factor y
@@ -29,12 +25,12 @@ module _ {R : Type 0} (k : Kind R) (l : CommutativeRing (operations k)) where
   pub fold_reverse : (y : R) (cs : List R) → fold k y k.zero (reverse cs) ≡ evaluated k y cs
   fold_reverse y [] = refl
   fold_reverse y (c ∷ cs) =
-      ap (fold k y k.zero) (reverse-cons c cs) ∙ fold_append k y k.zero (reverse cs) (c ∷ [])
+      ap (fold k y k.zero) (reverse-cons c cs) ∙ fold-append (λ a d. k.plus (k.times a y) d) k.zero (reverse cs) (c ∷ [])
       ∙ ap (λ a. k.plus (k.times a y) c) (fold_reverse y cs)
       ∙ l.plus_comm (k.times (evaluated k y cs) y) c
       ∙ ap (k.plus c) (l.times_comm (evaluated k y cs) y) ∙ sym (evaluated_cons y c cs)
 
--- a turn of a loop over a list from its end, and its last
+-- one step and the end of a walk over a list from its end
 module _ {R : Type 0} (k : Kind R) (y acc : R) where
   pub fold_back_more : (cs ds : List R) (c : R) → cs ≡ ds ++ (c ∷ []) → fold k y acc (reverse cs) ≡ fold k y (k.plus (k.times acc y) c) (reverse ds)
   fold_back_more cs ds c e = ap (λ bs. fold k y acc (reverse bs)) e ∙ ap (fold k y acc) (reverse-append ds (c ∷ []))

@@ -5,6 +5,7 @@ pub mod Facts
 pub mod Faults
 pub mod Kind
 pub mod Mod257
+pub mod Modulo
 pub mod Norm
 pub mod Numbers
 pub mod Operations
@@ -12,7 +13,6 @@ pub mod Sums
 -- the lemmas on which the laws of the kinds rest, and the laws: no clause cites them
 pub mod BearLaws
 pub mod BearProduct
-pub mod BearRing
 pub mod Below
 pub mod Digits
 pub mod Folds
@@ -23,8 +23,8 @@ pub mod Laws257
 pub mod Least
 pub mod ModLemmas
 pub mod Powers
+pub mod ResidueRing
 pub mod Residues
-pub mod Ring257
 pub mod RingFacts
 pub mod RootFacts
 pub mod Solver

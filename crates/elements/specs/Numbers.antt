@@ -1,6 +1,5 @@
 -- Searches and powers among whole numbers. Assumes nothing.
-use Rattle.std.specs.Prelude.{ℕ, zero, suc, ◌*◌, ◌%◌, Bool, cond, List, take, Some, None, Option}
-use Rattle.elements.specs.declared.coefficients.Coefficients.{Coefficients}
+use Rattle.std.specs.Prelude.{ℕ, zero, suc, ◌*◌, ◌%◌, Bool, cond, Some, None, Option}
 
 abbrev pub or_else : {X : Type 0} → Option X → Option X → Option X
 or_else None y = y
@@ -20,7 +19,3 @@ squared p y (suc n) = (squared p y n * squared p y n) % p
 abbrev pub squared_onward : ℕ → ℕ → ℕ → ℕ
 squared_onward p y zero = y
 squared_onward p y (suc n) = squared_onward p ((y * y) % p) n
-
--- the base numbers that a `Coefficients` holds
-abbrev pub numbers_of : Coefficients → List ℕ
-numbers_of c = take c.count c.numbers

@@ -1,5 +1,6 @@
 -- Sums, products and folds of lists of elements. Assumes nothing.
 use Rattle.std.specs.Prelude.{List, [], ◌∷◌}
+use Rattle.std.specs.List as list
 use Rattle.elements.specs.Kind.{Kind, evaluated}
 
 module _ {R : Type 0} (k : Kind R) where
@@ -9,8 +10,7 @@ module _ {R : Type 0} (k : Kind R) where
 
   -- acc·alpha + c over the list, first to last
   abbrev pub fold : R → R → List R → R
-  fold alpha acc [] = acc
-  fold alpha acc (c ∷ cs) = fold alpha (k.plus (k.times acc alpha) c) cs
+  fold alpha acc cs = list.fold (λ a c. k.plus (k.times a alpha) c) acc cs
 
   -- the values of the coordinates put together: the sum of x^i·v_i
   abbrev pub recomposed : List R → R

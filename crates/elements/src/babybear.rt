@@ -1,12 +1,10 @@
 // The element of the kind BabyBear: the coefficients of 1, x, x^2 and x^3.
-ghost use Rattle.std.specs.Prelude.{◌<◌};
+use crate::residue::Residue;
 
-// A whole number below p.
-#[derive(Clone, Copy)]
-pub struct BaseNumber {
-    value: u32,
-    ghost below: { value < 2013265921 },
-}
+// p, which is 15·2^27 + 1.
+pub(crate) const P: u32 = 2013265921;
+
+pub(crate) type BaseNumber = Residue<P>;
 
 #[derive(Clone, Copy)]
 pub struct BabyBear {

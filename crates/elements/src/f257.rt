@@ -1,10 +1,6 @@
-// The element of the kind F257: a whole number below 257.
-ghost use Rattle.std.specs.Prelude.{◌<◌};
+// The element of the kind F257.
+use crate::residue::Residue;
 
-#[derive(Clone, Copy)]
-pub struct F257 {
-    value: u16,
-    ghost below: { value < 257 },
-}
+pub type F257 = Residue<257>;
 
 pub mod kind;

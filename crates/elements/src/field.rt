@@ -2,13 +2,16 @@
 ghost use Rattle.std.specs.Prelude.{◌≡◌};
 ghost use Rattle.elements.specs.Kind.{Kind, Laws, less, pow, root_at};
 ghost use Rattle.elements.specs.Faults.{Offered};
-ghost use Rattle.elements.specs.Numbers.{numbers_of};
 
-use crate::coefficients::Coefficients;
+use crate::lists::exp_u64;
+use std::convert::AsSlice;
 
 // A field kind; its values are its elements.
 pub trait Field: Copy {
     ghost kind: { Kind Self };
+
+    // D base numbers, lowest first.
+    type Coefficients: Copy + AsSlice<u32>;
 
     // p: a base number is a whole number below it.
     fn modulus() -> u32
@@ -47,9 +50,16 @@ pub trait Field: Copy {
     fn from_u32(number: u32) -> Self
         ensures { result ≡ kind.embed number };
 
+    // x: the coefficients of an element belong to 1, x, .., x^(D-1).
+    fn basis() -> Self
+        ensures { result ≡ kind.x };
+
     // x^e.
-    fn basis_power(e: u64) -> Self
-        ensures { result ≡ pow kind kind.x e };
+    final fn basis_power(e: u64) -> Self
+        ensures { result ≡ pow kind kind.x e }
+    {
+        exp_u64(Self::basis(), e)
+    }
 
     // The shift g.
     fn generator() -> Self
@@ -59,8 +69,8 @@ pub trait Field: Copy {
     fn two_adic_generator(bits: usize) -> Option<Self>
         ensures { result ≡ root_at kind bits };
 
-    fn coefficients(self) -> Coefficients
-        ensures { numbers_of result ≡ kind.coefficients self };
+    fn coefficients(self) -> Self::Coefficients
+        ensures { Self.Coefficients.items result ≡ kind.coefficients self };
 
     // The element with these coefficients, where there is one.
     fn from_coefficients(offered: &[u64]) -> Option<Self>

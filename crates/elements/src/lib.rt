@@ -2,7 +2,6 @@
 #![tactic(auto)]
 
 pub mod babybear;
-pub mod coefficients;
 pub mod commitment;
 pub mod f257;
 pub mod fault;
@@ -10,3 +9,4 @@ pub mod field;
 pub mod laws;
 pub mod lists;
 pub mod place;
+pub mod residue;

@@ -1,11 +1,13 @@
 // Powers, sums, products and folds over any kind.
 ghost use Rattle.std.specs.Prelude.{◌≡◌, map};
+ghost use Rattle.std.specs.Iterator.{IsFinite};
+ghost use Rattle.std.specs.Iterator.Runs.{WholeRun};
 ghost use Rattle.elements.specs.Kind.{pow, total, evaluated};
 ghost use Rattle.elements.specs.Sums.{product, fold, recomposed};
 
 use crate::field::Field;
 
-// x to the power n, by repeated squaring.
+// x to the power n, by repeated squaring: the exponent is halved and not counted, so no iterator is plainer than this loop.
 pub fn exp_u64<E: Field>(x: E, n: u64) -> E
     ensures { result ≡ pow E.kind x n }
 {
@@ -22,62 +24,51 @@ pub fn exp_u64<E: Field>(x: E, n: u64) -> E
     power
 }
 
+// acc·alpha + c over the values as they come, from 0.
+fn fold_in<E: Field, I: Iterator<Item = E>>(alpha: E, values: I) -> E
+    requires can { I.can_next values }
+    requires ends { IsFinite (I.remaining values) }
+    ensures { WholeRun I.next_gives values (λ run. result ≡ fold E.kind alpha E.kind.zero run.items) }
+{
+    values.fold(E::zero(), |acc, c| acc.mul(alpha).add(c))
+}
+
 // acc·alpha + c over the values, first to last, from 0.
 pub fn folded<E: Field>(alpha: E, values: &[E]) -> E
     ensures { result ≡ fold E.kind alpha E.kind.zero values.now }
 {
-    let mut acc = E::zero();
-    for c in values {
-        acc = acc.mul(alpha).add(*c);
-    }
-    acc
+    fold_in(alpha, values.iter().copied())
 }
 
 // The polynomial with these coefficients, lowest first, at a point.
 pub fn horner<E: Field>(coefficients: &[E], point: E) -> E
     ensures { result ≡ evaluated E.kind point coefficients.now }
 {
-    let mut acc = E::zero();
-    for c in coefficients.iter().rev() {
-        acc = acc.mul(point).add(*c);
-    }
-    acc
+    fold_in(point, coefficients.iter().rev().copied())
 }
 
 // The same of coefficients that are numbers, read modulo p.
 pub fn horner_u32<E: Field>(coefficients: &[u32], point: E) -> E
     ensures { result ≡ evaluated E.kind point (map E.kind.embed coefficients.now) }
 {
-    let mut acc = E::zero();
-    for c in coefficients.iter().rev() {
-        acc = acc.mul(point).add(E::from_u32(*c));
-    }
-    acc
+    fold_in(point, coefficients.iter().rev().map(|c| E::from_u32(*c)))
 }
 
 // Values of the coordinates put together: the sum of x^i·v_i.
 pub fn recompose<E: Field>(values: &[E]) -> E
     ensures { result ≡ recomposed E.kind values.now }
 {
-    horner(values, E::basis_power(1))
+    horner(values, E::basis())
 }
 
 pub fn sum<E: Field>(values: &[E]) -> E
     ensures { result ≡ total E.kind values.now }
 {
-    let mut acc = E::zero();
-    for v in values {
-        acc = acc.add(*v);
-    }
-    acc
+    values.iter().fold(E::zero(), |acc, v| acc.add(*v))
 }
 
 pub fn product_of<E: Field>(values: &[E]) -> E
     ensures { result ≡ product E.kind values.now }
 {
-    let mut acc = E::one();
-    for v in values {
-        acc = acc.mul(*v);
-    }
-    acc
+    values.iter().fold(E::one(), |acc, v| acc.mul(*v))
 }

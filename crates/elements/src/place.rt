@@ -9,11 +9,6 @@ use crate::field::Field;
 pub fn set_from_coefficients<E: Field>(place: &mut E, offered: &[u64]) -> Result<(), ElementError>
     ensures { Placed E.kind offered.now place.old place.new (refusal element_fault result) }
 {
-    match E::from_coefficients(offered) {
-        None => Err(ElementError::Canonical),
-        Some(value) => {
-            *place = value;
-            Ok(())
-        }
-    }
+    *place = E::from_coefficients(offered).ok_or(ElementError::Canonical)?;
+    Ok(())
 }

@@ -1,9 +1,8 @@
 -- Tables published as coefficients, and their values at a point. Assumes nothing.
-use Rattle.std.specs.Prelude.{ℕ, ◌+◌, ◌*◌, ◌^◌, Bool, cond, ◌&&◌, List, [], ◌∷◌, ◌++◌, map, length, take, drop, Some, None, vec_items, Option, ◌==◌, nat_lt}
+use Rattle.std.specs.Prelude.{ℕ, ◌+◌, ◌*◌, ◌^◌, Bool, cond, ◌&&◌, List, [], ◌∷◌, ◌++◌, map, length, find, take, drop, Some, None, Option, ◌==◌, nat_lt}
 use Rattle.std.specs.List.{range_with_len}
 use Rattle.std.specs.Str.{bytes_eq}
 use Rattle.elements.specs.Kind.{Kind, evaluated}
-use Rattle.openings.specs.declared.clear.Clear.{Clear}
 use Rattle.openings.specs.declared.clear.ClearEntry.{ClearEntry}
 
 -- A matrix of some columns, 2^bits coefficients each, one column after the other from a place in the list of numbers.
@@ -22,10 +21,7 @@ pub record ClearV : Type 0 where
   pub numbers : List ℕ
 
 abbrev pub entry_view : ClearEntry → EntryV
-entry_view e = record { commitment = e.commitment.bytes; matrix = e.matrix; bits = e.bits; start = e.start; columns = e.columns }
-
-abbrev pub clear_view : Clear → ClearV
-clear_view c = record { zk = c.zk; smallest = c.smallest; largest = c.largest; entries = map entry_view (vec_items c.entries); numbers = vec_items c.numbers }
+entry_view e = record { commitment = e.id.commitment.bytes; matrix = e.id.matrix; bits = e.id.bits; start = e.start; columns = e.columns }
 
 -- a store that holds nothing yet
 abbrev pub empty_clear : Bool → ℕ → ℕ → ClearV
@@ -40,11 +36,6 @@ with_number c n = record { zk = c.zk; smallest = c.smallest; largest = c.largest
 -- the entry is of this commitment, matrix and degree bits
 abbrev pub matches : List ℕ → ℕ → ℕ → EntryV → Bool
 matches commitment matrix bits e = bytes_eq e.commitment commitment && (e.matrix == matrix && e.bits == bits)
-
--- the first entry that passes
-abbrev pub first_of : {X : Type 0} → (X → Bool) → List X → Option X
-first_of passes [] = None
-first_of passes (x ∷ xs) = cond (passes x) (Some x) (first_of passes xs)
 
 -- one past the last place that the entry takes
 abbrev pub reach : EntryV → ℕ
@@ -66,4 +57,4 @@ module _ {R : Type 0} (k : Kind R) where
 
   -- the values that the first entry with this commitment, matrix and degree bits has at the point
   abbrev pub held_at : ClearV → List ℕ → ℕ → ℕ → R → Option (List R)
-  held_at clear commitment matrix bits point = held_by clear.numbers point (first_of (matches commitment matrix bits) clear.entries)
+  held_at clear commitment matrix bits point = held_by clear.numbers point (find (matches commitment matrix bits) clear.entries)

@@ -1,27 +1,36 @@
 // A store of tables that are published as coefficients.
-ghost use Rattle.std.specs.Prelude.{◌≡◌, ◌+◌, ◌*◌, ◌^◌, ◌<◌, ◌≤◌, map, length, IfOk, vec_items, MatchOption, MatchResult};
+ghost use Rattle.std.specs.Prelude.{◌≡◌, ◌+◌, ◌*◌, ◌^◌, ◌<◌, ◌≤◌, map, length, find, IfOk, vec_items, MatchOption, MatchResult};
 ghost use Rattle.std.specs.Option.{option_map};
-ghost use Rattle.openings.specs.Coefficients.{entry_view, clear_view, empty_clear, with_entry, with_number, matches, first_of, reach, columns_at, held_at, held_by};
+ghost use Rattle.elements.specs.Kind.{evaluated};
+ghost use Rattle.openings.specs.Coefficients.{ClearV, entry_view, empty_clear, with_entry, with_number, matches, reach, column_of, columns_at, held_at, held_by};
 
 use elements::commitment::Commitment;
 use elements::field::Field;
 use elements::lists::horner_u32;
 use std::alloc::{AllocError, Global};
+use std::marker::Model;
 
 // The bits of a `usize`.
 const WORD_BITS: usize = 64;
 
-// A matrix: `columns` polynomials of 2^bits coefficients, one after the other from `start`.
-#[derive(Clone, Copy)]
-pub struct ClearEntry {
+// Which matrix of a commitment, and on 2^bits points.
+#[derive(Clone, Copy, Debug, PartialEq, Eq)]
+pub struct MatrixId {
     pub commitment: Commitment,
     pub matrix: usize,
     pub bits: usize,
+}
+
+// A matrix: `columns` polynomials of 2^bits coefficients, one after the other from `start`.
+#[derive(Clone, Copy)]
+pub struct ClearEntry {
+    pub id: MatrixId,
     pub start: usize,
     pub columns: usize,
 }
 
-// `zk` and the limits of the degree bits are the caller's.
+// `zk` and the limits of the degree bits are the caller's. Entries name places of the one list: the published form has it so, entries may share
+// numbers, and one may reach past the list.
 #[derive(Drop)]
 pub struct Clear {
     zk: bool,
@@ -31,9 +40,22 @@ pub struct Clear {
     numbers: Vec<u32>,
 }
 
+// Clauses see a store as its limits, its entries and its list of numbers.
+impl Model for Clear {
+    ghost Value = { ClearV };
+
+    ghost view = { λ c. record {
+      zk = c.zk;
+      smallest = c.smallest;
+      largest = c.largest;
+      entries = map entry_view (vec_items c.entries);
+      numbers = vec_items c.numbers;
+    } };
+}
+
 impl Clear {
     pub fn new(heap: Global, zk: bool, smallest: usize, largest: usize) -> Clear
-        ensures { clear_view result ≡ empty_clear zk smallest largest }
+        ensures { result ≡ empty_clear zk smallest largest }
     {
         Clear {
             zk,
@@ -46,7 +68,7 @@ impl Clear {
 
     // One entry more, after those in use.
     pub fn add_entry(&mut self, entry: ClearEntry) -> Result<(), AllocError>
-        ensures { MatchResult result (λ _. clear_view self.new ≡ with_entry (clear_view self.old) (entry_view entry)) (λ _. clear_view self.new ≡ clear_view self.old) }
+        ensures { MatchResult result (λ _. self.new ≡ with_entry self.old (entry_view entry)) (λ _. self.new ≡ self.old) }
     {
         self.entries.push(entry)?;
         Ok(())
@@ -54,87 +76,95 @@ impl Clear {
 
     // One number more, after those in use.
     pub fn add_number(&mut self, number: u32) -> Result<(), AllocError>
-        ensures { MatchResult result (λ _. clear_view self.new ≡ with_number (clear_view self.old) number) (λ _. clear_view self.new ≡ clear_view self.old) }
+        ensures { MatchResult result (λ _. self.new ≡ with_number self.old number) (λ _. self.new ≡ self.old) }
     {
         self.numbers.push(number)?;
         Ok(())
     }
 
-    // The values at a point of the first entry with this commitment, matrix and degree bits.
+    // The values at a point of the first entry with this id.
     pub fn values<E: Field>(
         &self,
         heap: Global,
-        commitment: &Commitment,
-        matrix: usize,
-        bits: usize,
+        id: &MatrixId,
         point: E,
     ) -> Result<Option<Vec<E>>, AllocError>
-        ensures { IfOk result (λ held. option_map vec_items held ≡ held_at E.Field.kind (clear_view self.now) commitment.now.bytes matrix bits point) }
+        ensures { IfOk result (λ held. option_map vec_items held ≡ held_at E.Field.kind self.now id.now.commitment.bytes id.now.matrix id.now.bits point) }
     {
-        let Some(entry) = first_match(self.entries.as_slice(), commitment, matrix, bits) else {
+        let Some(entry) = first_match(self.entries.as_slice(), id) else {
             return Ok(None);
         };
-        let numbers = self.numbers.as_slice();
-        let Some(size) = column_size(entry, numbers.len()) else {
+        let Some(columns) = Columns::new(entry, self.numbers.as_slice()) else {
             return Ok(None);
         };
-        let values = column_values(heap, entry, size, numbers, point)?;
+        let values = columns.values(heap, point)?;
         Ok(Some(values))
     }
 }
 
-fn is_of(entry: &ClearEntry, commitment: &Commitment, matrix: usize, bits: usize) -> bool
-    ensures { result ≡ matches commitment.now.bytes matrix bits (entry_view entry.now) }
+fn is_of(entry: &ClearEntry, id: &MatrixId) -> bool
+    ensures { result ≡ matches id.now.commitment.bytes id.now.matrix id.now.bits (entry_view entry.now) }
 {
-    entry.commitment == *commitment && entry.matrix == matrix && entry.bits == bits
+    entry.id == *id
 }
 
-fn first_match(
-    entries: &[ClearEntry],
-    commitment: &Commitment,
-    matrix: usize,
-    bits: usize,
-) -> Option<ClearEntry>
-    ensures { option_map entry_view result ≡ first_of (matches commitment.now.bytes matrix bits) (map entry_view entries.now) }
+fn first_match(entries: &[ClearEntry], id: &MatrixId) -> Option<ClearEntry>
+    ensures { option_map entry_view result ≡ find (matches id.now.commitment.bytes id.now.matrix id.now.bits) (map entry_view entries.now) }
 {
-    for entry in entries {
-        if is_of(entry, commitment, matrix, bits) {
-            return Some(*entry);
-        }
-    }
-    None
+    entries.iter().find(|entry| is_of(entry, id)).copied()
 }
 
 // The size of a column of an entry that lies within its list; places never wrap.
 fn column_size(entry: ClearEntry, len: usize) -> Option<usize>
-    ensures { MatchOption result (len < reach (entry_view entry)) (λ size. (reach (entry_view entry) ≤ len) × (0 < entry.columns → size ≡ 2 ^ entry.bits)) }
+    ensures { MatchOption result (len < reach (entry_view entry)) (λ size. (reach (entry_view entry) ≤ len) × (0 < entry.columns → size ≡ 2 ^ entry.id.bits)) }
 {
     if entry.columns == 0 {
-        return if entry.start <= len { Some(1) } else { None };
+        return (entry.start <= len).then_some(1);
     }
-    if entry.bits >= WORD_BITS {
+    if entry.id.bits >= WORD_BITS {
         return None;
     }
-    let size = 1usize << entry.bits;
+    let size = 1usize << entry.id.bits;
     let end = size.checked_mul(entry.columns)?.checked_add(entry.start)?;
-    if end <= len { Some(size) } else { None }
+    (end <= len).then_some(size)
 }
 
-fn column_values<E: Field>(
-    heap: Global,
+// An entry whose columns lie within a list of numbers.
+#[derive(Clone, Copy)]
+struct Columns<'a> {
     table: ClearEntry,
+    numbers: &'a [u32],
     size: usize,
-    numbers: &[u32],
-    point: E,
-) -> Result<Vec<E>, AllocError>
-    requires within { reach (entry_view table) ≤ length numbers.now }
-    requires size { 0 < table.columns → size ≡ 2 ^ table.bits }
-    ensures { IfOk result (λ v. v.items ≡ columns_at E.Field.kind numbers.now (entry_view table) point) }
-{
-    let mut values = Vec::new(heap);
-    for column in 0..table.columns {
-        let from = table.start + column * size;
-        values.push(horner_u32(&numbers[from..from + size], point))?;
+    ghost within: { reach (entry_view table) ≤ length numbers.now },
+    ghost column: { 0 < table.columns → size ≡ 2 ^ table.id.bits },
+}
+
+impl<'a> Columns<'a> {
+    fn new(table: ClearEntry, numbers: &'a [u32]) -> Option<Columns<'a>>
+        ensures { MatchOption result (length numbers.now < reach (entry_view table)) (λ columns. (columns.table ≡ table) × (columns.numbers.now ≡ numbers.now)) }
+    {
+        let size = column_size(table, numbers.len())?;
+        Some(Columns {
+            table,
+            numbers,
+            size,
+        })
     }
-    Ok(values)
+
+    // The polynomial of one column at the point.
+    fn value<E: Field>(&self, column: usize, point: E) -> E
+        requires { column < self.now.table.columns }
+        ensures { result ≡ evaluated E.kind point (map E.kind.embed (column_of self.now.numbers.now (entry_view self.now.table) column)) }
+    {
+        let from = self.table.start + column * self.size;
+        horner_u32(&self.numbers[from..from + self.size], point)
+    }
+
+    fn values<E: Field>(&self, heap: Global, point: E) -> Result<Vec<E>, AllocError>
+        ensures { IfOk result (λ v. v.items ≡ columns_at E.Field.kind self.now.numbers.now (entry_view self.now.table) point) }
+    {
+        (0..self.table.columns)
+            .map(|column| self.value(column, point))
+            .collect(heap)
+    }
 }

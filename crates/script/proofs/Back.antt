@@ -4,6 +4,7 @@ use Rattle.std.specs.List.{All, flat_map}
 use Rattle.std.specs.Option.{option_map}
 use Rattle.std.specs.Char.{is_ascii_digit}
 use Rattle.std.specs.Str.{all_ascii_digits}
+use Rattle.std.proofs.lemmas.Bool.{and_parts}
 use Rattle.std.proofs.lemmas.List.{length-map}
 use Rattle.std.proofs.lemmas.List.Elements.{All-head, All-tail, All-weaker}
 use Rattle.elements.specs.Kind.{Kind, Laws}
@@ -12,17 +13,17 @@ use Rattle.script.specs.Pieces.{pieces, pieces_after, cuts_at}
 use Rattle.script.specs.Values.{cons_to, all_of, coefficients_of, comma_before, commaed, element_of, offered_element, written_element}
 use Rattle.script.specs.declared.text.Separator.TheVariants.{Comma}
 use Rattle.script.proofs.Numbering.{decimal_digits, decimal_read}
-use Rattle.script.proofs.Offering.{and_left, and_right, offered_back}
+use Rattle.script.proofs.Offering.{offered_back}
 
 no_comma : (c : ℕ) → is_ascii_digit c ≡ true → eqb c 44 ≡ false
-no_comma c e = let low : 48 ≤ c = leb-true 48 c (and_left (leb 48 c) (leb c 57) e) in ne_eqb c 44 (λ is. omega arith)
+no_comma c e = let low : 48 ≤ c = leb-true 48 c (and_parts (leb 48 c) (leb c 57) e).0 in ne_eqb c 44 (λ is. omega arith)
 
 -- digits do not cut
 past_digits : (front ds rest : List ℕ) → all_ascii_digits ds ≡ true → pieces_after (cuts_at Comma) front (ds ++ rest) ≡ pieces_after (cuts_at Comma) (front ++ ds) rest
 past_digits front [] rest e = ap (λ f. pieces_after (cuts_at Comma) f rest) (sym (append-nil front))
 past_digits front (d ∷ ds) rest e =
-    ap (λ b. cond b (front ∷ pieces_after (cuts_at Comma) [] (ds ++ rest)) (pieces_after (cuts_at Comma) (front ++ (d ∷ [])) (ds ++ rest))) (no_comma d (and_left (is_ascii_digit d) (all_ascii_digits ds) e))
-    ∙ past_digits (front ++ (d ∷ [])) ds rest (and_right (is_ascii_digit d) (all_ascii_digits ds) e)
+    ap (λ b. cond b (front ∷ pieces_after (cuts_at Comma) [] (ds ++ rest)) (pieces_after (cuts_at Comma) (front ++ (d ∷ [])) (ds ++ rest))) (no_comma d (and_parts (is_ascii_digit d) (all_ascii_digits ds) e).0)
+    ∙ past_digits (front ++ (d ∷ [])) ds rest (and_parts (is_ascii_digit d) (all_ascii_digits ds) e).1
     ∙ ap (λ f. pieces_after (cuts_at Comma) f rest) (append_assoc front (d ∷ []) ds)
 
 -- numbers that a script can hold

@@ -1,63 +1,59 @@
--- A text cut while it is read from the front. Assumes nothing.
-use Rattle.std.proofs.Common.{◌≡◌, ℕ, ◌+◌, ◌-◌, ◌<◌, ◌≤◌, Bool, true, false, cond, not, eqb, List, [], ◌∷◌, ◌++◌, length, get_or, take, drop, filter, sym, ap, ◌∙◌, append_assoc, append-nil, arith, eq-eqb}
-use Rattle.std.proofs.lemmas.List.{drop_more, drop_all, take_more, take_all, length-drop, get_or-drop}
-use Rattle.script.specs.Pieces.{uncommented, pieces_after, some}
+-- The parts of a text are those that `split` gives, and a comment begins where `position` says. Assumes nothing.
+use Rattle.std.proofs.Common.{◌≡◌, ℕ, suc, ◌+◌, ◌≤◌, Bool, true, false, cond, not, eqb, ltb, List, [], ◌∷◌, ◌++◌, length, take, Some, None, Option, sym, refl, ap, ◌∙◌, subst, append_assoc, append-nil, arith}
+use Rattle.std.specs.List.{slice_split, onto_first, before_first, position_or_len}
+use Rattle.std.specs.Option.{MatchOption}
+use Rattle.std.proofs.lemmas.List.{take_all}
+use borrow.Author.Tests.{ltb-false}
+use Rattle.script.specs.Pieces.{pieces, pieces_after, uncommented}
 
-module _ (xs : List ℕ) (i : ℕ) (goal : List ℕ) (so_far : take i xs ++ uncommented (drop i xs) ≡ goal) where
-  at : i < length xs → (b : Bool) → eqb (get_or xs i 0) 35 ≡ b → take i xs ++ cond b [] (get_or xs i 0 ∷ uncommented (drop (i + 1) xs)) ≡ goal
-  at h b e =
-      ap (λ t. take i xs ++ cond t [] (get_or xs i 0 ∷ uncommented (drop (i + 1) xs))) (sym e)
-      ∙ ap (λ l. take i xs ++ uncommented l) (sym (drop_more xs i 0 h)) ∙ so_far
+-- the parts, the first of which has this before it
+abbrev behind : List ℕ → List (List ℕ) → List (List ℕ)
+behind front [] = front ∷ []
+behind front (part ∷ parts) = (front ++ part) ∷ parts
 
-  pub comment_here : i < length xs → get_or xs i 0 ≡ 35 → take i xs ≡ goal
-  comment_here h e = sym (append-nil (take i xs)) ∙ at h true (eq-eqb _ _ e)
+one_more : (front : List ℕ) (b : ℕ) (parts : List (List ℕ)) → behind front (onto_first b parts) ≡ behind (front ++ (b ∷ [])) parts
+one_more front b [] = refl
+one_more front b (part ∷ parts) = ap (λ p. p ∷ parts) (sym (append_assoc front (b ∷ []) part))
 
-  pub comment_later : i < length xs → eqb (get_or xs i 0) 35 ≡ false → take (i + 1) xs ++ uncommented (drop (i + 1) xs) ≡ goal
-  comment_later h e =
-      ap (λ l. l ++ uncommented (drop (i + 1) xs)) (take_more xs i 0 h) ∙ append_assoc (take i xs) (get_or xs i 0 ∷ []) (uncommented (drop (i + 1) xs)) ∙ at h false e
+same : (t : Bool) (b : ℕ) (parts : List (List ℕ)) → behind [] (cond t ([] ∷ parts) (onto_first b parts)) ≡ cond t ([] ∷ parts) (onto_first b parts)
+same true b parts = refl
+same false b [] = refl
+same false b (part ∷ parts) = refl
 
-  pub no_comment : length xs ≤ i → xs ≡ goal
-  no_comment h = sym (take_all i xs h) ∙ sym (append-nil (take i xs)) ∙ ap (λ l. take i xs ++ uncommented l) (sym (drop_all i xs h)) ∙ so_far
+module _ (cuts : ℕ → Bool) where
+  none_before : (bs : List ℕ) → behind [] (slice_split cuts bs) ≡ slice_split cuts bs
+  none_before [] = refl
+  none_before (b ∷ bs) = same (cuts b) b (slice_split cuts bs)
 
--- the part that began at start, and what is left
-module _ (cuts : ℕ → Bool) (xs : List ℕ) (start i : ℕ) (done goal : List (List ℕ)) (begun : start ≤ i)
-    (so_far : done ++ pieces_after cuts (take (i - start) (drop start xs)) (drop i xs) ≡ goal) where
-  turn : i < length xs → (b : Bool) → cuts (get_or xs i 0) ≡ b
-      → done ++ cond b (take (i - start) (drop start xs) ∷ pieces_after cuts [] (drop (i + 1) xs)) (pieces_after cuts (take (i - start) (drop start xs) ++ (get_or xs i 0 ∷ [])) (drop (i + 1) xs)) ≡ goal
-  turn h b e =
-      ap (λ t. done ++ cond t (take (i - start) (drop start xs) ∷ pieces_after cuts [] (drop (i + 1) xs)) (pieces_after cuts (take (i - start) (drop start xs) ++ (get_or xs i 0 ∷ [])) (drop (i + 1) xs))) (sym e)
-      ∙ ap (λ l. done ++ pieces_after cuts (take (i - start) (drop start xs)) l) (sym (drop_more xs i 0 h)) ∙ so_far
+  turn : (t : Bool) (front : List ℕ) (b : ℕ) (bs : List ℕ) → ((f : List ℕ) → behind f (slice_split cuts bs) ≡ pieces_after cuts f bs)
+      → behind front (cond t ([] ∷ slice_split cuts bs) (onto_first b (slice_split cuts bs))) ≡ cond t (front ∷ pieces_after cuts [] bs) (pieces_after cuts (front ++ (b ∷ [])) bs)
+  turn true front b bs h = ap (λ p. p ∷ slice_split cuts bs) (append-nil front) ∙ ap (λ l. front ∷ l) (sym (none_before bs) ∙ h [])
+  turn false front b bs h = one_more front b (slice_split cuts bs) ∙ h (front ++ (b ∷ []))
 
-  -- the same part, one byte longer
-  pub goes_on : i < length xs → cuts (get_or xs i 0) ≡ false → done ++ pieces_after cuts (take (i + 1 - start) (drop start xs)) (drop (i + 1) xs) ≡ goal
-  goes_on h e =
-      let n : i + 1 - start ≡ i - start + 1 = omega arith in
-      let l : length (drop start xs) ≡ length xs - start = length-drop start xs in
-      let g : get_or (drop start xs) (i - start) 0 ≡ get_or xs i 0 = get_or-drop start xs (i - start) 0 ∙ ap (λ m. get_or xs m 0) (let m : start + (i - start) ≡ i = omega arith in m) in
-      ap (λ p. done ++ pieces_after cuts p (drop (i + 1) xs))
-      (ap (λ m. take m (drop start xs)) n ∙ take_more (drop start xs) (i - start) 0 (omega arith) ∙ ap (λ x. take (i - start) (drop start xs) ++ (x ∷ [])) g)
-      ∙ turn h false e
+  pieces_behind : (front bs : List ℕ) → behind front (slice_split cuts bs) ≡ pieces_after cuts front bs
+  pieces_behind front [] = ap (λ p. p ∷ []) (append-nil front)
+  pieces_behind front (b ∷ bs) = turn (cuts b) front b bs (λ f. pieces_behind f bs)
 
-  -- a part ends, and the next begins
-  pub cut_here : i < length xs → cuts (get_or xs i 0) ≡ true → (done ++ (take (i - start) (drop start xs) ∷ [])) ++ pieces_after cuts (take (i + 1 - (i + 1)) (drop (i + 1) xs)) (drop (i + 1) xs) ≡ goal
-  cut_here h e =
-      let n : i + 1 - (i + 1) ≡ 0 = omega arith in
-      ap (λ m. (done ++ (take (i - start) (drop start xs) ∷ [])) ++ pieces_after cuts (take m (drop (i + 1) xs)) (drop (i + 1) xs)) n
-      ∙ append_assoc done (take (i - start) (drop start xs) ∷ []) (pieces_after cuts [] (drop (i + 1) xs)) ∙ turn h true e
+  pub pieces_split : (bs : List ℕ) → slice_split cuts bs ≡ pieces cuts bs
+  pieces_split bs = sym (none_before bs) ∙ pieces_behind [] bs
 
-  pub last_part : length xs ≤ i → i ≤ length xs → done ++ (drop start xs ∷ []) ≡ goal
-  last_part h w =
-      let l : length (drop start xs) ≡ length xs - start = length-drop start xs in
-      ap (λ p. done ++ (p ∷ [])) (sym (take_all (i - start) (drop start xs) (omega arith)))
-      ∙ ap (λ r. done ++ pieces_after cuts (take (i - start) (drop start xs)) r) (sym (drop_all i xs h)) ∙ so_far
+abbrev pub comment : ℕ → Bool
+comment b = eqb b 35
 
--- the next part is kept where it is not empty
-module _ (done goal old rest : List (List ℕ)) (x : List ℕ) (next : old ≡ x ∷ rest) (so_far : done ++ filter some old ≡ goal) where
-  pick : (b : Bool) → some x ≡ b → done ++ cond b (x ∷ filter some rest) (filter some rest) ≡ goal
-  pick b e = ap (λ t. done ++ cond t (x ∷ filter some rest) (filter some rest)) (sym e) ∙ ap (λ l. done ++ filter some l) (sym next) ∙ so_far
+one_before : (t : Bool) (b : ℕ) (bs rest : List ℕ) (n : ℕ) → take n bs ≡ rest → take (cond (not t) (1 + n) 0) (b ∷ bs) ≡ cond t [] (b ∷ rest)
+one_before true b bs rest n e = refl
+one_before false b bs rest n e = let more : 1 + n ≡ suc n = omega arith in ap (λ m. take m (b ∷ bs)) more ∙ ap (λ l. b ∷ l) e
 
-  pub part_kept : eqb (length x) 0 ≡ false → (done ++ (x ∷ [])) ++ filter some rest ≡ goal
-  part_kept e = append_assoc done (x ∷ []) (filter some rest) ∙ pick true (ap not e)
+before_comment : (bs : List ℕ) → before_first comment bs ≡ uncommented bs
+before_comment [] = refl
+before_comment (b ∷ bs) = one_before (comment b) b bs (uncommented bs) (position_or_len comment bs) (before_comment bs)
 
-  pub part_passed : eqb (length x) 0 ≡ true → done ++ filter some rest ≡ goal
-  part_passed e = pick false (ap not e)
+found : (bs : List ℕ) (t : Bool) → ltb (position_or_len comment bs) (length bs) ≡ t
+    → MatchOption (cond t (Some (position_or_len comment bs)) None) (bs ≡ uncommented bs) (λ i. take i bs ≡ uncommented bs)
+found bs true e = before_comment bs
+found bs false e = let past : length bs ≤ position_or_len comment bs = omega (arith, ltb-false (position_or_len comment bs) (length bs) e) in sym (take_all (position_or_len comment bs) bs past) ∙ before_comment bs
+
+-- a line is cut at the place that `position` found
+pub cut_at : (bs : List ℕ) (r : Option ℕ) → r ≡ cond (ltb (position_or_len comment bs) (length bs)) (Some (position_or_len comment bs)) None
+    → MatchOption r (bs ≡ uncommented bs) (λ i. take i bs ≡ uncommented bs)
+cut_at bs r e = subst (λ o. MatchOption o (bs ≡ uncommented bs) (λ i. take i bs ≡ uncommented bs)) (sym e) (found bs (ltb (position_or_len comment bs) (length bs)) refl)

@@ -1,67 +1,76 @@
 -- Hexadecimal digits, two by two. Assumes nothing.
-use Rattle.std.proofs.Common.{◌≡◌, ℕ, ◌+◌, ◌-◌, ◌*◌, ◌/◌, ◌%◌, ◌<◌, ◌≤◌, Bool, true, false, cond, ◌&&◌, ltb, leb, List, []}
-use Rattle.std.proofs.Common.{◌∷◌, ◌++◌, length, get_or, take, drop, set, replicate, Some, None, Option, sym, refl, ap, ◌∙◌, append-nil, arith, lt-ltb, le-leb}
-use borrow.Author.Tests.{lt-leb}
+use Rattle.std.proofs.Common.{◌≡◌, ℕ, ◌+◌, ◌-◌, ◌*◌, ◌/◌, ◌%◌, ◌^◌, ◌<◌, ◌≤◌, true, false, cond, ltb, leb, List, [], ◌∷◌, ◌++◌}
+use Rattle.std.proofs.Common.{length, get_or, take, drop, replicate, Some, None, Ok, Err, Option, Result, sym, refl, ap, ◌∙◌, append-nil, inl, inr, arith, lt-ltb, le-leb}
+use Rattle.std.specs.Prelude.{MatchResult}
 use Rattle.std.specs.Option.{option_map}
+use Rattle.std.specs.Result.{result_ok}
 use Rattle.std.specs.Char.{digit_value, digit_char}
+use Rattle.std.specs.Fmt.{digits, padded_integral, format_spec}
 use Rattle.std.specs.List.{All}
-use Rattle.std.proofs.lemmas.List.{drop_more, drop_all, take_more_set, take-append-drop, length-take-le}
+use Rattle.std.proofs.lemmas.Bool.{cases_eq}
+use Rattle.std.proofs.lemmas.Fmt.{hex_byte as hex_byte_shown}
+use Rattle.std.proofs.lemmas.Grind.{common_steps}
+use Rattle.std.proofs.lemmas.List.{drop-replicate, flat_map_more, take_more}
 use Rattle.std.proofs.lemmas.List.Elements.{All-head, All-tail, All-from_get_or}
 use Rattle.std.proofs.lemmas.Str.{digit_value-digit_char}
-use Rattle.script.proofs.Collecting.{twice}
+use Rattle.hex.specs.Hex.{decode_pairs, decode_sized, hex_digit_value, pair_value, ◌>>=◌}
+use Rattle.hex.specs.declared.error.FromHexError.{FromHexError}
+use Rattle.hex.specs.declared.error.FromHexError.TheVariants.{OddLength}
+use Rattle.hex.proofs.Pairs.{decode_sized-pairs}
 use Rattle.script.specs.Values.{cons_to}
-use Rattle.script.specs.Hexadecimal.{pair_of, pairs_of, commitment_of, hex_of}
+use Rattle.script.specs.Hexadecimal.{hexadecimal, pair_of, pairs_of, commitment_of, hex_byte, hex_of}
 
-cons_none : (o : Option ℕ) → cons_to o None ≡ None
-cons_none None = refl
-cons_none (Some b) = refl
+-- the library reads digits as the specs do
+digit_read : (c : ℕ) → hex_digit_value c ≡ cond (hexadecimal c) (Some (digit_value c)) None
+digit_read c = grind (arith, common_steps)
+
+pair_read : (x y i : ℕ) → result_ok (pair_value x y i) ≡ pair_of x y
+pair_read x y i = simp (digit_read x, digit_read y) (grind (arith, common_steps))
+
+-- a byte and the bytes behind it
+joined : (p : Result ℕ FromHexError) (ps : Result (List ℕ) FromHexError) → result_ok (p >>= (λ b. ps >>= (λ bs. Ok (b ∷ bs)))) ≡ cons_to (result_ok p) (result_ok ps)
+joined (Ok b) (Ok bs) = refl
+joined (Ok b) (Err e) = refl
+joined (Err e) ps = refl
+
+pairs_read : (i : ℕ) (w : List ℕ) → result_ok (decode_pairs i w) ≡ pairs_of w
+unfolding decode_pairs
+pairs_read i [] = refl
+pairs_read i (x ∷ []) = refl
+pairs_read i (x ∷ y ∷ rest) =
+    joined (pair_value x y i) (decode_pairs (i + 2) rest) ∙ ap (λ o. cons_to o (result_ok (decode_pairs (i + 2) rest))) (pair_read x y i)
+    ∙ ap (cons_to (pair_of x y)) (pairs_read (i + 2) rest)
+
+none_behind : (o : Option ℕ) (ps : Option (List ℕ)) → ps ≡ None → cons_to o ps ≡ None
+none_behind o ps e = grind (arith, common_steps)
 
 -- an odd number of digits writes no bytes
 odd_none : (w : List ℕ) → length w % 2 ≡ 1 → pairs_of w ≡ None
 odd_none [] h = absurd (omega arith)
 odd_none (x ∷ []) h = refl
-odd_none (x ∷ y ∷ rest) h = ap (cons_to (pair_of x y)) (odd_none rest (omega arith)) ∙ cons_none (pair_of x y)
+odd_none (x ∷ y ∷ rest) h = let e : pairs_of rest ≡ None = odd_none rest (omega arith) in none_behind (pair_of x y) (pairs_of rest) e
 
-padded : (b : Bool) (o : Option (List ℕ)) → o ≡ None → None ≡ cond b (option_map (λ bs. bs ++ replicate (32 - length bs) 0) o) None
-padded true o e = ap (option_map (λ bs. bs ++ replicate (32 - length bs) 0)) (sym e)
-padded false o e = refl
+-- the bytes that the library wrote are those that it read, where it read any
+told : (o : Result (List ℕ) FromHexError) (new : List ℕ) (r : Result (Unit {0}) FromHexError) → MatchResult o (λ bs. (r ≡ Ok tt) × (new ≡ bs)) (λ e. r ≡ Err e)
+    → result_ok o ≡ option_map (λ _. new) (result_ok r)
+told (Ok bs) new r h = grind (arith, common_steps)
+told (Err e) new r h = grind (arith, common_steps)
 
-pub no_bytes : (w : List ℕ) → pairs_of w ≡ None → None ≡ commitment_of w
-no_bytes w e = padded (leb (length w) 64) (pairs_of w) e
+-- what the library answers of a word, with room for half as many bytes
+sized : (w : List ℕ) (n : ℕ) → n ≡ length w / 2 → result_ok (decode_sized w n) ≡ pairs_of w
+sized w n half =
+    elim (cases_eq (length w % 2) 1) [
+      | inl odd ↦ ap result_ok (let e : decode_sized w n ≡ Err OddLength = grind (arith) in e) ∙ sym (odd_none w odd)
+      | inr even ↦ ap result_ok (decode_sized-pairs w n (omega arith) (sym half)) ∙ pairs_read 0 w
+    ]
 
-pub odd_refused : (w : List ℕ) → length w % 2 ≡ 1 → None ≡ commitment_of w
-odd_refused w h = no_bytes w (odd_none w h)
+pub decoded : (w : List ℕ) (n : ℕ) → n ≡ length w / 2 → (new : List ℕ) (r : Result (Unit {0}) FromHexError)
+    → MatchResult (decode_sized w n) (λ bs. (r ≡ Ok tt) × (new ≡ bs)) (λ e. r ≡ Err e) → pairs_of w ≡ option_map (λ _. new) (result_ok r)
+decoded w n half new r answered = sym (sized w n half) ∙ told (decode_sized w n) new r answered
 
-pub long_refused : (w : List ℕ) → 64 < length w → None ≡ commitment_of w
-long_refused w h = ap (λ b. cond b (option_map (λ bs. bs ++ replicate (32 - length bs) 0) (pairs_of w)) None) (sym (lt-leb (length w) 64 h))
-
--- where the loop over a word stands: the first i bytes are written, and zeros are behind them
-module _ (w bytes : List ℕ) (i : ℕ) (inv : option_map (λ bs. take i bytes ++ bs) (pairs_of (drop (2 * i) w)) ≡ pairs_of w) where
-  two_on : 2 * i + 1 < length w → drop (2 * i) w ≡ get_or w (2 * i) 0 ∷ get_or w (2 * i + 1) 0 ∷ drop (2 * (i + 1)) w
-  two_on h =
-      let n : 2 * i + 1 + 1 ≡ 2 * (i + 1) = omega arith in
-      drop_more w (2 * i) 0 (omega arith) ∙ ap (λ l. get_or w (2 * i) 0 ∷ l) (drop_more w (2 * i + 1) 0 h ∙ ap (λ m. get_or w (2 * i + 1) 0 ∷ drop m w) n)
-
-  pub pair_refused : 2 * i + 1 < length w → pair_of (get_or w (2 * i) 0) (get_or w (2 * i + 1) 0) ≡ None → None ≡ commitment_of w
-  pair_refused h e =
-      no_bytes w (sym inv ∙ ap (λ l. option_map (λ bs. take i bytes ++ bs) (pairs_of l)) (two_on h) ∙ ap (λ o. option_map (λ bs. take i bytes ++ bs) (cons_to o (pairs_of (drop (2 * (i + 1)) w)))) e)
-
-  pub pair_written : (b : ℕ) → i < length bytes → 2 * i + 1 < length w → pair_of (get_or w (2 * i) 0) (get_or w (2 * i + 1) 0) ≡ Some b
-      → option_map (λ bs. take (i + 1) (set bytes i b) ++ bs) (pairs_of (drop (2 * (i + 1)) w)) ≡ pairs_of w
-  pair_written b room h e =
-      ap (λ f. option_map (λ bs. f ++ bs) (pairs_of (drop (2 * (i + 1)) w))) (take_more_set bytes i b room)
-      ∙ sym (twice (take i bytes) b (pairs_of (drop (2 * (i + 1)) w)))
-      ∙ ap (λ o. option_map (λ bs. take i bytes ++ bs) (cons_to o (pairs_of (drop (2 * (i + 1)) w)))) (sym e)
-      ∙ ap (λ l. option_map (λ bs. take i bytes ++ bs) (pairs_of l)) (sym (two_on h)) ∙ inv
-
-  pub all_written : length bytes ≡ 32 → length w ≤ 64 → length w ≡ 2 * i → drop i bytes ≡ replicate (32 - i) 0 → Some bytes ≡ commitment_of w
-  all_written full short done zeros =
-      let o : pairs_of w ≡ Some (take i bytes) =
-      sym inv ∙ ap (λ l. option_map (λ bs. take i bytes ++ bs) (pairs_of l)) (drop_all (2 * i) w (omega arith)) ∙ ap Some (append-nil (take i bytes)) in
-      let n : length (take i bytes) ≡ i = length-take-le i bytes (omega arith) in
-      ap Some (sym (take-append-drop i bytes) ∙ ap (λ z. take i bytes ++ z) (zeros ∙ ap (λ m. replicate (32 - m) 0) (sym n)))
-      ∙ ap (option_map (λ bs. bs ++ replicate (32 - length bs) 0)) (sym o)
-      ∙ ap (λ b. cond b (option_map (λ bs. bs ++ replicate (32 - length bs) 0) (pairs_of w)) None) (sym (le-leb (length w) 64 short))
+-- the bytes that are written, and zeros behind them
+pub filled : (w new : List ℕ) → length w ≤ 64 → length new ≡ length w / 2 → pairs_of w ≡ Some new → Some (new ++ drop (length w / 2) (replicate 32 0)) ≡ commitment_of w
+filled w new short full e = simp (drop-replicate, e, le-leb (length w) 64 short, full)
 
 -- bytes that are written read back as themselves
 pair_back : (b : ℕ) → b < 256 → pair_of (digit_char (b / 16)) (digit_char (b % 16)) ≡ Some b
@@ -71,10 +80,7 @@ pair_back b h =
     let s : ltb (b / 16) 16 ≡ true = lt-ltb _ _ (omega arith) in
     let t : ltb (b % 16) 16 ≡ true = lt-ltb _ _ (omega arith) in
     let e : b / 16 * 16 + b % 16 ≡ b = omega arith in
-    ap (λ x. cond (ltb x 16 && ltb (digit_value (digit_char (b % 16))) 16) (Some (x * 16 + digit_value (digit_char (b % 16)))) None) high
-    ∙ ap (λ y. cond (ltb (b / 16) 16 && ltb y 16) (Some (b / 16 * 16 + y)) None) low
-    ∙ ap (λ c. cond (c && ltb (b % 16) 16) (Some (b / 16 * 16 + b % 16)) None) s
-    ∙ ap (λ c. cond c (Some (b / 16 * 16 + b % 16)) None) t ∙ ap Some e
+    simp (high, low, s, t, e)
 
 pairs_back : (bs : List ℕ) → All (λ b. b < 256) bs → pairs_of (hex_of bs) ≡ Some bs
 pairs_back [] h = refl
@@ -84,15 +90,15 @@ length_hex : (bs : List ℕ) → length (hex_of bs) ≡ 2 * length bs
 length_hex [] = refl
 length_hex (b ∷ bs) = omega (arith, length_hex bs)
 
-hex_back : (bs : List ℕ) → All (λ b. b < 256) bs → length bs ≡ 32 → commitment_of (hex_of bs) ≡ Some bs
-hex_back bs small full =
-    let none : 32 - length bs ≡ 0 = omega arith in
-    ap (λ b. cond b (option_map (λ cs. cs ++ replicate (32 - length cs) 0) (pairs_of (hex_of bs))) None) (le-leb (length (hex_of bs)) 64 (omega (arith, length_hex bs)))
-    ∙ ap (option_map (λ cs. cs ++ replicate (32 - length cs) 0)) (pairs_back bs small)
-    ∙ ap Some (ap (λ n. bs ++ replicate n 0) none ∙ append-nil bs)
-
-below_each : (bs : List ℕ) → ((i : ℕ) → get_or bs i 0 < 256) → All (λ b. b < 256) bs
-below_each bs h = All-from_get_or (λ b. b < 256) bs 0 (λ i within. h i)
-
 pub bytes_back : (bs : List ℕ) → ((i : ℕ) → get_or bs i 0 < 256) → length bs ≡ 32 → commitment_of (hex_of bs) ≡ Some bs
-bytes_back bs h full = hex_back bs (below_each bs h) full
+bytes_back bs small full =
+    let back = pairs_back bs (All-from_get_or (λ b. b < 256) bs 0 (λ i within. small i)) in
+    let short : leb (length (hex_of bs)) 64 ≡ true = le-leb (length (hex_of bs)) 64 (omega (arith, length_hex bs)) in
+    simp (short, back, full, append-nil)
+
+-- a byte more is shown
+pub one_shown : (bs : List ℕ) (i : ℕ) → i < length bs → get_or bs i 0 < 256
+    → hex_of (take i bs) ++ padded_integral (format_spec 32 0 4 2 (2 ^ 64 - 1)) false [] (digits 16 false (get_or bs i 0)) ≡ hex_of (take (i + 1) bs)
+one_shown bs i h small =
+    ap (λ l. hex_of (take i bs) ++ l) (hex_byte_shown false (get_or bs i 0) small)
+    ∙ flat_map_more hex_byte [] (take i bs) (get_or bs i 0) ∙ ap hex_of (sym (take_more bs i 0 h))

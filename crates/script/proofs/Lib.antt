@@ -1,12 +1,7 @@
 pub mod Back
-pub mod Collecting
 pub mod Cutting
-pub mod Filling
 pub mod Hexing
-pub mod Lining
 pub mod Numbering
 pub mod Offering
-pub mod Replying
 pub mod Stepping
 pub mod Taking
-pub mod Writing

@@ -1,9 +1,9 @@
 -- Reading digits one after the other. Assumes nothing.
 use Rattle.std.proofs.Common.{◌≡◌, ℕ, ◌+◌, ◌-◌, ◌*◌, ◌^◌, ◌<◌, ◌≤◌, Bool, true, false, cond, ◌&&◌, ltb, List, [], ◌∷◌}
-use Rattle.std.proofs.Common.{length, get_or, drop, Some, None, decimal, Option, sym, refl, ap, ◌∙◌, arith, rules, ltb-false, ltb-true, le-ltb, lt-ltb}
+use Rattle.std.proofs.Common.{length, Some, None, decimal, Option, sym, refl, ap, ◌∙◌, arith, rules, ltb-false, ltb-true, le-ltb, lt-ltb}
 use Rattle.std.specs.Char.{is_ascii_digit}
 use Rattle.std.specs.Str.{all_ascii_digits}
-use Rattle.std.proofs.lemmas.List.{at_drop_more, at_drop_all}
+use Rattle.std.proofs.Math.Bool.{and-false}
 use Rattle.std.proofs.lemmas.Str.Parse.{IsNumeralModel, numerals_by_fold}
 use Rattle.std.proofs.lemmas.Fmt.{digits_decimal, digits_value-decimal, decimal_nonempty}
 use Rattle.script.specs.Numerals.{value_after, number_of}
@@ -21,17 +21,13 @@ grows : (n : ℕ) (bs : List ℕ) → n ≤ value_after n bs
 grows n [] = omega arith
 grows n (c ∷ cs) = omega (arith, grows (n * 10 + (c - 48)) cs)
 
-and_false : (b : Bool) → b && false ≡ false
-and_false true = refl
-and_false false = refl
-
 step : (n c : ℕ) (cs : List ℕ) (d t : Bool) → is_ascii_digit c ≡ d → ltb (n * 10 + (c - 48)) (2 ^ 64) ≡ t
     → (n * 10 + (c - 48) < 2 ^ 64 → read_after (n * 10 + (c - 48)) cs ≡ whole (n * 10 + (c - 48)) cs) → read_after n (c ∷ cs) ≡ whole n (c ∷ cs)
 step n c cs false t d e rest = simp d
 step n c cs true true d e rest = simp (d, e) (rest (ltb-true _ _ e))
 step n c cs true false d e rest =
     let far : ltb (value_after (n * 10 + (c - 48)) cs) (2 ^ 64) ≡ false = le-ltb _ _ (omega (arith, ltb-false _ _ e, grows (n * 10 + (c - 48)) cs)) in
-    simp (d, e, far, and_false)
+    simp (d, e, far, and-false)
 
 read_whole : (n : ℕ) (bs : List ℕ) → n < 2 ^ 64 → read_after n bs ≡ whole n bs
 read_whole n [] h = sym (ap (λ b. cond b (Some n) None) (lt-ltb n (2 ^ 64) h))
@@ -54,28 +50,3 @@ decimal_read n h =
     let s : ltb 0 (length (decimal n)) ≡ true = lt-ltb _ _ (decimal_nonempty n h) in
     let t : ltb n (2 ^ 64) ≡ true = lt-ltb _ _ h in
     simp (s, ds, v, t)
-
--- where the loop over a word stands: a front of value n has been read, up to i
-module _ (bs : List ℕ) (i n : ℕ) where
-  opened : i < length bs → (d t : Bool) → is_ascii_digit (get_or bs i 0) ≡ d → ltb (n * 10 + (get_or bs i 0 - 48)) (2 ^ 64) ≡ t
-      → read_after n (drop i bs) ≡ cond (d && t) (read_after (n * 10 + (get_or bs i 0 - 48)) (drop (i + 1) bs)) None
-  opened h d t p q =
-      at_drop_more (read_after n) bs i 0 h
-      ∙ ap (λ b. cond (b && ltb (n * 10 + (get_or bs i 0 - 48)) (2 ^ 64)) (read_after (n * 10 + (get_or bs i 0 - 48)) (drop (i + 1) bs)) None) p
-      ∙ ap (λ b. cond (d && b) (read_after (n * 10 + (get_or bs i 0 - 48)) (drop (i + 1) bs)) None) q
-
-  more : i < length bs → 0 < length bs
-  more h = omega arith
-
-  pub stops_at : i < length bs → read_after n (drop i bs) ≡ read_after 0 bs → is_ascii_digit (get_or bs i 0) ≡ false → None ≡ number_of bs
-  stops_at h inv d = sym (opened h false _ d refl) ∙ inv ∙ number_read bs (more h)
-
-  pub stops_past : i < length bs → read_after n (drop i bs) ≡ read_after 0 bs → is_ascii_digit (get_or bs i 0) ≡ true → 2 ^ 64 ≤ n * 10 + (get_or bs i 0 - 48) → None ≡ number_of bs
-  stops_past h inv d far = sym (opened h true false d (le-ltb _ _ far)) ∙ inv ∙ number_read bs (more h)
-
-  pub goes_past : i < length bs → read_after n (drop i bs) ≡ read_after 0 bs → is_ascii_digit (get_or bs i 0) ≡ true → n * 10 + (get_or bs i 0 - 48) < 2 ^ 64
-      → read_after (n * 10 + (get_or bs i 0 - 48)) (drop (i + 1) bs) ≡ read_after 0 bs
-  goes_past h inv d near = sym (opened h true true d (lt-ltb _ _ near)) ∙ inv
-
-  pub all_read : length bs ≤ i → 0 < length bs → read_after n (drop i bs) ≡ read_after 0 bs → Some n ≡ number_of bs
-  all_read h some inv = sym (at_drop_all (read_after n) bs i h) ∙ inv ∙ number_read bs some

@@ -1,26 +1,18 @@
 -- The element with given coefficients. Assumes nothing.
-use Rattle.std.proofs.Common.{◌≡◌, ℕ, ◌<◌, Bool, true, false, cond, ◌&&◌, eqb, ltb, List, [], ◌∷◌, length, Some, None, Option, sym, refl, ap, ◌∙◌, arith, ltb-true, lt-ltb, eq-eqb, eqb-true}
+use Rattle.std.proofs.Common.{◌≡◌, ℕ, ◌<◌, Bool, true, false, cond, ◌&&◌, eqb, List, [], ◌∷◌, length, Some, None, Option, sym, refl, ap, ◌∙◌, ltb-true, lt-ltb, eq-eqb, eqb-true}
 use Rattle.std.specs.List.{All}
+use Rattle.std.specs.Option.{ok_or}
+use Rattle.std.specs.Result.{result_ok}
+use Rattle.std.proofs.lemmas.Bool.{and_parts}
 use Rattle.std.proofs.lemmas.List.Elements.{All-nil, All-cons, All-head, All-tail}
 use Rattle.elements.specs.Kind.{Kind, Laws, Canonical}
 use Rattle.elements.specs.Faults.{Offered}
 use Rattle.script.specs.Values.{all_below, offered_element}
 
-pub and_left : (a b : Bool) → a && b ≡ true → a ≡ true
-and_left true b e = refl
-and_left false b e = e
-
-pub and_right : (a b : Bool) → a && b ≡ true → b ≡ true
-and_right true b e = e
-and_right false b e = absurd (let z : ◌≡◌ {A = Bool} false true = e in no z)
-  where
-    no : false ≡ true → ⊥
-    no z = let n : ◌≡◌ {A = ℕ} 0 1 = cc in omega arith
-
 below_all : (p : ℕ) (cs : List ℕ) → all_below p cs ≡ true → All (λ c. c < p) cs
 below_all p [] e = All-nil (λ c. c < p)
 below_all p (c ∷ cs) e =
-    All-cons (λ c. c < p) c cs (ltb-true c p (and_left (ltb c p) (all_below p cs) e)) (below_all p cs (and_right (ltb c p) (all_below p cs) e))
+    All-cons (λ c. c < p) c cs (ltb-true c p (and_parts _ _ e).0) (below_all p cs (and_parts _ _ e).1)
 
 all_are_below : (p : ℕ) (cs : List ℕ) → All (λ c. c < p) cs → all_below p cs ≡ true
 all_are_below p [] h = refl
@@ -32,7 +24,7 @@ module _ {R : Type 0} (k : Kind R) (l : Laws k) (cs : List ℕ) where
   passes h = ap (λ b. b && all_below k.modulus cs) (eq-eqb _ _ h.0) ∙ all_are_below k.modulus cs h.1
 
   told : eqb (length cs) k.dimension && all_below k.modulus cs ≡ true → Canonical k cs
-  told e = (eqb-true _ _ (and_left _ _ e), below_all k.modulus cs (and_right (eqb (length cs) k.dimension) _ e))
+  told e = (eqb-true _ _ (and_parts _ _ e).0, below_all k.modulus cs (and_parts _ _ e).1)
 
   refused : (b : Bool) → eqb (length cs) k.dimension && all_below k.modulus cs ≡ b → (Canonical k cs → ⊥) → None ≡ cond b (Some (k.element cs)) None
   refused true e h = absurd (h (told e))
@@ -48,3 +40,8 @@ module _ {R : Type 0} (k : Kind R) (l : Laws k) (cs : List ℕ) where
 -- an element's own coefficients are those of it
 pub offered_back : {R : Type 0} (k : Kind R) → Laws k → (v : R) → offered_element k (k.coefficients v) ≡ Some v
 offered_back k l v = sym (offered_is k l (k.coefficients v) (Some v) (l.coordinates.canonical v, refl))
+
+-- what a reason is added to, where there is nothing, is still there where there is
+pub ok_again : {X W : Type 0} (o : Option X) (why : W) → result_ok (ok_or o why) ≡ o
+ok_again None why = refl
+ok_again (Some x) why = refl

@@ -1,47 +1,40 @@
--- A rule by the state that it finds. Assumes nothing.
-use Rattle.std.proofs.Common.{◌≡◌, ℕ, ◌<◌, Bool, List, [], ◌∷◌, ◌++◌, map, length, Some, None, Ok, Option, Result, sym, refl, ap, ◌∙◌, subst, arith}
-use Rattle.std.specs.Option.{option_map}
-use Rattle.std.proofs.lemmas.List.{map_push}
+-- A rule by the state that it finds, from which the open block was taken out. Assumes nothing.
+use Rattle.std.proofs.Common.{◌≡◌, ℕ, true, false, eqb, List, [], ◌∷◌, length, is_some, Some, None, Ok, Err, Option, Result, sym, refl, ap, ◌∙◌, subst}
 use Rattle.elements.specs.Kind.{Kind}
-use Rattle.openings.specs.Coefficients.{ClearV, clear_view}
+use Rattle.openings.specs.Coefficients.{ClearV}
 use Rattle.script.specs.Reading.{Stepped}
-use Rattle.script.specs.Rules.{StateV, on_ok, statement_view, state_view, state_in, field_rule, outer_rule, after_outer, block_rule, after_clear, rule_of}
+use Rattle.script.specs.Rules.{StateV, ClearLineV, goes_on, ends, on_ok, outer_rule, after_outer, block_rule, after_clear, by_block, by_field, rule_of}
 use Rattle.script.specs.declared.statement.FieldName.{FieldName}
 use Rattle.script.specs.declared.statement.LineError.{LineError}
-use Rattle.script.specs.declared.statement.Progress.{Progress}
-use Rattle.script.specs.declared.statement.Statement.{Statement}
 use Rattle.script.specs.declared.statement.What.{What}
 
--- one statement more
-pub said_more : {R : Type 0} (f : Option FieldName) (t : Bool) (b : Option ClearV) (old new : List (Statement R)) (s : Statement R) (o : Result (StateV R) What)
-    → new ≡ old ++ (s ∷ []) → Ok (record { field = f; scheme = t; block = b; statements = map statement_view old ++ (statement_view s ∷ []) }) ≡ o
-    → Ok (record { field = f; scheme = t; block = b; statements = map statement_view new }) ≡ o
-said_more f t b old new s o e h = ap (λ l. Ok (record { field = f; scheme = t; block = b; statements = l })) (ap (map statement_view) e ∙ map_push statement_view old s) ∙ h
+-- the state with this in the place of its block
+abbrev pub placed : {R : Type 0} → StateV R → Option ClearV → StateV R
+placed s b = record { field = s.field; scheme = s.scheme; block = b; statements = s.statements }
 
-module _ {R : Type 0} (k : Kind R) (said : List (Statement R)) where
-  pub no_words : (p : Progress) (ws : List (List ℕ)) → length ws ≡ 0 → Ok (state_view p said) ≡ rule_of k (state_view p said) ws
-  no_words p [] e = refl
-  no_words p (w ∷ ws) e = absurd (omega arith)
+module _ {R : Type 0} (k : Kind R) where
+  -- what a line of a block does does not depend on the block that stands there
+  same_after : (s : StateV R) (b : Option ClearV) (line : Result ClearLineV What) → on_ok (after_clear k (placed s b)) line ≡ on_ok (after_clear k s) line
+  same_after s b (Ok (goes_on c)) = refl
+  same_after s b (Ok (ends c)) = refl
+  same_after s b (Err why) = refl
 
-  -- before the field is named
-  pub unnamed : (p : Progress) (ws : List (List ℕ)) → 0 < length ws → p.field ≡ None
-      → on_ok (λ f. record { field = Some f; scheme = p.scheme; block = option_map clear_view p.block; statements = map statement_view said }) (field_rule ws) ≡ rule_of k (state_view p said) ws
-  unnamed p [] h e = absurd (omega arith)
-  unnamed p (w ∷ ws) h e =
-      ap (λ f. rule_of k (record { field = f; scheme = p.scheme; block = option_map clear_view p.block; statements = map statement_view said }) (w ∷ ws)) (sym e)
+  named : (s : StateV R) (f : Option FieldName) (ws : List (List ℕ)) → is_some f ≡ true → by_field k s f ws ≡ by_block k s s.block ws
+  named s None ws e = cc
+  named s (Some f) ws e = refl
 
-  same_state : (p : Progress) (f : FieldName) (b : Option ClearV) → p.field ≡ Some f → option_map clear_view p.block ≡ b → state_view p said ≡ state_in f p.scheme b said
-  same_state p f b d e = λ i. record { field = d i; scheme = p.scheme; block = e i; statements = map statement_view said }
+  by_its_block : (s : StateV R) (ws : List (List ℕ)) → eqb (length ws) 0 ≡ false → is_some s.field ≡ true → (b : Option ClearV) → s.block ≡ b → rule_of k s ws ≡ by_block k s b ws
+  by_its_block s [] some field b e = cc
+  by_its_block s (w ∷ ws) some field b e = named s s.field (w ∷ ws) field ∙ ap (λ o. by_block k s o (w ∷ ws)) e
 
-  pub between : (p : Progress) (f : FieldName) (ws : List (List ℕ)) → 0 < length ws → p.field ≡ Some f → p.block ≡ None
-      → on_ok (after_outer k (state_in f p.scheme None said)) (outer_rule k p.scheme ws) ≡ rule_of k (state_view p said) ws
-  between p f [] h d e = absurd (omega arith)
-  between p f (w ∷ ws) h d e = ap (λ s. rule_of k s (w ∷ ws)) (sym (same_state p f None d (ap (option_map clear_view) e)))
+  module _ (s : StateV R) (b : Option ClearV) (ws : List (List ℕ)) (new : StateV R) (r : Result (Unit {0}) LineError) (some : eqb (length ws) 0 ≡ false) (field : is_some s.field ≡ true) where
+    pub between : s.block ≡ None → b ≡ None → Stepped (on_ok (after_outer k (placed s b)) (outer_rule k s.scheme ws)) (placed s b) new r → Stepped (rule_of k s ws) s new r
+    between e d told =
+        let old : placed s b ≡ s = ap (placed s) (d ∙ sym e) in
+        let rule = ap (λ t. on_ok (after_outer k t) (outer_rule k s.scheme ws)) old ∙ sym (by_its_block s ws some field None e) in
+        subst (λ o. Stepped o s new r) rule told
 
-  pub within : (p : Progress) (f : FieldName) (c : ClearV) (ws : List (List ℕ)) → 0 < length ws → p.field ≡ Some f → option_map clear_view p.block ≡ Some c
-      → on_ok (after_clear k (state_in f p.scheme (Some c) said)) (block_rule c ws) ≡ rule_of k (state_view p said) ws
-  within p f c [] h d e = absurd (omega arith)
-  within p f c (w ∷ ws) h d e = ap (λ s. rule_of k s (w ∷ ws)) (sym (same_state p f (Some c) d e))
-
-pub stepped_by : {R : Type 0} (old said : List (Statement R)) (r : Result Progress LineError) (one other : Result (StateV R) What) → one ≡ other → Stepped one old said r → Stepped other old said r
-stepped_by old said r one other e h = subst (λ o. Stepped o old said r) e h
+    pub within : (c : ClearV) → s.block ≡ Some c → Stepped (on_ok (after_clear k (placed s b)) (block_rule c ws)) (placed s b) new r → Stepped (rule_of k s ws) s new r
+    within c e told =
+        let rule = same_after s b (block_rule c ws) ∙ sym (by_its_block s ws some field (Some c) e) in
+        subst (λ o. Stepped o s new r) rule told

@@ -1,16 +1,10 @@
 -- Lines taken one after the other. Assumes nothing.
-use Rattle.std.proofs.Common.{◌≡◌, ℕ, ◌+◌, ◌<◌, ◌≤◌, List, [], ◌∷◌, ◌++◌, map, length, get_or, take, drop, is_some, Some, None, Ok, Err, Option, Result, sym, refl, ap, ◌∙◌, subst, inr, arith, Bor}
-use Rattle.std.specs.Option.{option_map}
+use Rattle.std.proofs.Common.{◌≡◌, ℕ, ◌+◌, ◌<◌, ◌≤◌, List, [], ◌∷◌, ◌++◌, map, length, get_or, take, drop, Some, None, Ok, Err, Option, Result, sym, refl, ap, ◌∙◌, inr, arith, Bor}
 use Rattle.std.proofs.lemmas.List.{take_all, map_more, drop_more, take-append-drop, map-append, length-map, length-take-le}
 use Rattle.elements.specs.Kind.{Kind}
-use Rattle.openings.specs.Coefficients.{clear_view}
-use Rattle.openings.specs.declared.clear.Clear.{Clear}
 use Rattle.script.specs.Pieces.{seen, words_of, line_of}
-use Rattle.script.specs.Reading.{Stepped, taken, Broken, Ending, ScriptRead}
-use Rattle.script.specs.Rules.{StateV, then, rule_of, begun, state_view, statement_view}
-use Rattle.script.specs.declared.statement.LineError.{LineError}
-use Rattle.script.specs.declared.statement.LineError.TheVariants.{Refused}
-use Rattle.script.specs.declared.statement.Progress.{Progress}
+use Rattle.script.specs.Reading.{taken, Broken, Ending, ScriptRead}
+use Rattle.script.specs.Rules.{StateV, then, rule_of, begun, statement_view}
 use Rattle.script.specs.declared.statement.ScriptError.{ScriptError}
 use Rattle.script.specs.declared.statement.Statement.{Statement}
 use Rattle.script.specs.declared.statement.What.{What}
@@ -18,10 +12,6 @@ use Rattle.script.specs.declared.statement.What.{What}
 then_itself : {X : Type 0} (o : Result X What) → then o Ok ≡ o
 then_itself (Ok x) = refl
 then_itself (Err why) = refl
-
-some_mapped : (o : Option Clear) → is_some (option_map clear_view o) ≡ is_some o
-some_mapped None = refl
-some_mapped (Some c) = refl
 
 module _ {R : Type 0} (k : Kind R) where
   pass : (o : Result (StateV R) What) (xs : List (List (List ℕ))) (w : List (List ℕ)) → ((t : StateV R) → taken k t (xs ++ (w ∷ [])) ≡ then (taken k t xs) (λ u. rule_of k u w))
@@ -60,23 +50,19 @@ module _ {R : Type 0} (k : Kind R) where
     all_taken : length xs ≤ i → taken k begun (map view xs) ≡ Ok s
     all_taken h = ap (λ l. taken k begun (map view l)) (sym (take_all i xs h)) ∙ so_far
 
-  pub lines_end : {X : Type 0} (view : X → List (List ℕ)) (xs : List X) (i : ℕ) (p : Progress) (said : List (Statement R)) → taken k begun (map view (take i xs)) ≡ Ok (state_view p said)
-      → length xs ≤ i → (e : Option ScriptError) → Ending p (length xs) e → ScriptRead k (map view xs) said e
-  lines_end view xs i p said so_far h None done =
-      record { end = state_view p said; taken_all = all_taken view xs i (state_view p said) so_far h; complete = (done.0, some_mapped p.block ∙ done.1); says = refl }
-  lines_end view xs i p said so_far h (Some e) left =
+  pub lines_end : {X : Type 0} (view : X → List (List ℕ)) (xs : List X) (i : ℕ) (s : StateV R) (said : List (Statement R)) → taken k begun (map view (take i xs)) ≡ Ok s
+      → length xs ≤ i → map statement_view said ≡ s.statements → (e : Option ScriptError) → Ending s (length xs) e → ScriptRead k (map view xs) said e
+  lines_end view xs i s said so_far h m None done =
+      record { end = s; taken_all = all_taken view xs i s so_far h; complete = done; says = m }
+  lines_end view xs i s said so_far h m (Some e) left =
       inr (record {
-        reached = state_view p said;
-        taken_all = all_taken view xs i (state_view p said) so_far h;
-        incomplete = λ c. left.0 (c.0, sym (some_mapped p.block) ∙ c.1);
+        reached = s;
+        taken_all = all_taken view xs i s so_far h;
+        incomplete = left.0;
         counted = left.1 ∙ sym (length-map xs view);
         reason = left.2;
-        says = refl;
+        says = m;
       })
-
-pub refused_told : {R : Type 0} (rule : Result (StateV R) What) (old said : List (Statement R)) (e : LineError) (w : What) → e ≡ Refused w → Stepped rule old said (Err e)
-    → (Err w ≡ rule) × (said ≡ old)
-refused_told rule old said e w h told = subst (λ f. Stepped rule old said (Err f)) h told
 
 pub map-line_of : (xs : List (Bor (List ℕ))) → map line_of xs ≡ map words_of (map seen xs)
 map-line_of [] = refl

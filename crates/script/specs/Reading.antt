@@ -1,11 +1,10 @@
 -- What reading a line, and a whole script, gives. Assumes nothing.
 use Rattle.std.specs.Prelude.{◌≡◌, ℕ, ◌+◌, true, false, cond, ◌⊎◌, List, [], ◌∷◌, ◌++◌, map, length, is_some, Some, None, Ok, Err, Option, Result}
 use Rattle.elements.specs.Kind.{Kind}
-use Rattle.script.specs.Rules.{StateV, then, state_view, statement_view, rule_of, begun}
+use Rattle.script.specs.Rules.{StateV, then, statement_view, rule_of, begun}
 use Rattle.script.specs.declared.statement.FieldName.{FieldName}
 use Rattle.script.specs.declared.statement.LineError.{LineError}
 use Rattle.script.specs.declared.statement.LineError.TheVariants.{Refused, Memory}
-use Rattle.script.specs.declared.statement.Progress.{Progress}
 use Rattle.script.specs.declared.statement.ScriptError.{ScriptError}
 use Rattle.script.specs.declared.statement.Statement.{Statement}
 use Rattle.script.specs.declared.statement.What.{What}
@@ -17,31 +16,31 @@ LineRead wanted view (Ok x) = Ok (view x) ≡ wanted
 LineRead wanted view (Err (Refused why)) = Err why ≡ wanted
 LineRead wanted view (Err Memory) = Unit {0}
 
-module _ {R : Type 0} where
-  -- a line was taken as its rule says, or no rule takes it and nothing was said
-  abbrev pub Stepped : Result (StateV R) What → List (Statement R) → List (Statement R) → Result Progress LineError → Type 0
-  Stepped rule old said (Ok p) = Ok (state_view p said) ≡ rule
-  Stepped rule old said (Err (Refused why)) = (Err why ≡ rule) × (said ≡ old)
-  Stepped rule old said (Err Memory) = Unit {0}
-
 -- what a script lacks that ends too early: an open block its `end`, or the script its field
 abbrev pub lacking : Option FieldName → What
 lacking f = cond (is_some f) NoEnd FieldFirst
 
--- a script may end where its field is named and no block is open
-abbrev pub Ending : Progress → ℕ → Option ScriptError → Type 0
-Ending p line None = (is_some p.field ≡ true) × (is_some p.block ≡ false)
-Ending p line (Some e) = ((is_some p.field ≡ true) × (is_some p.block ≡ false) → ⊥) × (e.line ≡ line) × (e.what ≡ lacking p.field)
+module _ {R : Type 0} where
+  -- a line was taken as its rule says, or no rule takes it and nothing was said
+  abbrev pub Stepped : Result (StateV R) What → StateV R → StateV R → Result (Unit {0}) LineError → Type 0
+  Stepped rule old new (Ok _) = Ok new ≡ rule
+  Stepped rule old new (Err (Refused why)) = (Err why ≡ rule) × (new.statements ≡ old.statements)
+  Stepped rule old new (Err Memory) = Unit {0}
+
+  -- a script may end here: its field is named, and no block is open
+  abbrev pub Complete : StateV R → Type 0
+  Complete s = (is_some s.field ≡ true) × (is_some s.block ≡ false)
+
+  -- a script ends here, or what is wrong with that
+  abbrev pub Ending : StateV R → ℕ → Option ScriptError → Type 0
+  Ending s line None = Complete s
+  Ending s line (Some e) = (Complete s → ⊥) × (e.line ≡ line) × (e.what ≡ lacking s.field)
 
 module _ {R : Type 0} (k : Kind R) where
   -- the state that lines lead to, each taken by its rule
   abbrev pub taken : StateV R → List (List (List ℕ)) → Result (StateV R) What
   taken s [] = Ok s
   taken s (ws ∷ rest) = then (rule_of k s ws) (λ t. taken t rest)
-
-  -- a script may end here: its field is named, and no block is open
-  abbrev pub Complete : StateV R → Type 0
-  Complete s = (is_some s.field ≡ true) × (is_some s.block ≡ false)
 
   -- Every line is taken, and the script is complete.
   pub record Whole (lines : List (List (List ℕ))) (said : List (Statement R)) : Type 0 where

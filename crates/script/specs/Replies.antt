@@ -2,11 +2,10 @@
 use Rattle.std.specs.Prelude.{◌≡◌, ℕ, List, [], ◌∷◌, ◌++◌, map, Some, None, codes, decimal, Option}
 use Rattle.std.specs.Borrow.{Bor}
 use Rattle.std.specs.List.{flat_map}
-use Rattle.elements.specs.Faults.{FaultV, element_fault}
+use Rattle.elements.specs.Faults.{element_fault, fault_text_of}
 use Rattle.elements.specs.Kind.{Kind}
 use Rattle.elements.specs.declared.fault.ElementError.TheVariants.{Canonical}
-use Rattle.openings.specs.Coefficients.{ClearV, clear_view, held_at}
-use Rattle.openings.specs.declared.clear.Clear.{Clear}
+use Rattle.openings.specs.Coefficients.{ClearV, held_at}
 use Rattle.script.specs.Reading.{ScriptRead}
 use Rattle.script.specs.Rules.{OpenV, StatementV, clear, open_at, statement_view}
 use Rattle.script.specs.Values.{written_element}
@@ -15,14 +14,10 @@ use Rattle.script.specs.declared.statement.Statement.{Statement}
 use Rattle.script.specs.declared.statement.What.{What}
 use Rattle.script.specs.declared.statement.What.TheVariants.{FieldFirst, FieldName, UnknownWord, WordCount, Flag, Number, SmallNumber, Commitment, Element, NoScheme, NoEnd}
 
--- a fault's number and its word
-abbrev pub fault_text_of : FaultV → List ℕ
-fault_text_of f = decimal f.number ++ (32 ∷ f.word)
-
 -- the scheme that stands
-abbrev pub standing : Option (Bor Clear) → Option ClearV
+abbrev pub standing : Option (Bor ClearV) → Option ClearV
 standing None = None
-standing (Some c) = Some (clear_view c.now)
+standing (Some c) = Some c.now
 
 abbrev pub what_text_of : What → List ℕ
 what_text_of FieldFirst = codes "the script begins with a line `field NAME`"
@@ -39,6 +34,15 @@ what_text_of NoEnd = codes "the last block has no `end`"
 
 abbrev pub error_text_of : ScriptError → List ℕ
 error_text_of e = codes "script error: line " ++ (decimal e.line ++ (codes ": " ++ what_text_of e.what))
+
+-- a line and its newline
+abbrev pub ended : List ℕ → List ℕ
+ended line = line ++ (10 ∷ [])
+
+-- the lines that are printed, and then why the script could not be read on
+abbrev pub answers_text_of : List (List ℕ) → Option ScriptError → List ℕ
+answers_text_of lines None = flat_map ended lines
+answers_text_of lines (Some e) = flat_map ended lines ++ ended (error_text_of e)
 
 module _ {R : Type 0} (k : Kind R) where
   abbrev pub after_blank : R → List ℕ

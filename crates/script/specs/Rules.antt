@@ -1,21 +1,16 @@
 -- The lines of a script, and what each of them does. Assumes nothing.
-use Rattle.std.specs.Prelude.{ℕ, zero, suc, ◌^◌, Bool, true, false, cond, List, [], ◌∷◌, ◌++◌, map, length, drop, Some, None, Ok, Err, codes, Option, Result, ◌==◌, nat_lt, slice_index_or}
-use Rattle.std.specs.Option.{option_map, ok_or}
+use Rattle.std.specs.Prelude.{ℕ, zero, suc, ◌^◌, Bool, true, false, cond, List, [], ◌∷◌, ◌++◌, length, drop, Some, None, Ok, Err, codes, Option, Result, ◌==◌, nat_lt, slice_index_or}
+use Rattle.std.specs.Option.{ok_or}
 use Rattle.std.specs.Result.{result_ok}
 use Rattle.std.specs.Str.{bytes_eq}
 use Rattle.elements.specs.Kind.{Kind}
-use Rattle.openings.specs.Coefficients.{EntryV, ClearV, clear_view, empty_clear, with_entry}
+use Rattle.openings.specs.Coefficients.{EntryV, ClearV, empty_clear, with_entry}
 use Rattle.script.specs.Hexadecimal.{commitment_of}
 use Rattle.script.specs.Numerals.{number_of}
 use Rattle.script.specs.Values.{all_of, element_of}
-use Rattle.script.specs.declared.statement.ClearLine.{ClearLine}
-use Rattle.script.specs.declared.statement.ClearLine.TheVariants.{GoesOn, Ends}
 use Rattle.script.specs.declared.statement.FieldName.{FieldName}
 use Rattle.script.specs.declared.statement.FieldName.TheVariants.{F257}
 use Rattle.script.specs.declared.statement.OpenLine.{OpenLine}
-use Rattle.script.specs.declared.statement.OuterLine.{OuterLine}
-use Rattle.script.specs.declared.statement.OuterLine.TheVariants.{BeginsClear, Asks}
-use Rattle.script.specs.declared.statement.Progress.{Progress}
 use Rattle.script.specs.declared.statement.Statement.{Statement}
 use Rattle.script.specs.declared.statement.Statement.TheVariants.{Clear, Open}
 use Rattle.script.specs.declared.statement.What.{What}
@@ -50,18 +45,11 @@ pub record StateV (R : Type 0) : Type 0 where
   pub statements : List (StatementV R)
 
 abbrev pub open_view : {R : Type 0} → OpenLine R → OpenV R
-open_view o = record { commitment = o.commitment.bytes; matrix = o.matrix; bits = o.bits; point = result_ok o.point }
+open_view o = record { commitment = o.id.commitment.bytes; matrix = o.id.matrix; bits = o.id.bits; point = result_ok o.point }
 
 abbrev pub statement_view : {R : Type 0} → Statement R → StatementV R
-statement_view (Clear c) = clear (clear_view c)
+statement_view (Clear c) = clear c
 statement_view (Open o) = open_at (open_view o)
-
--- the state once the field is named
-abbrev pub state_in : {R : Type 0} → FieldName → Bool → Option ClearV → List (Statement R) → StateV R
-state_in f scheme block said = record { field = Some f; scheme = scheme; block = block; statements = map statement_view said }
-
-abbrev pub state_view : {R : Type 0} → Progress → List (Statement R) → StateV R
-state_view p said = record { field = p.field; scheme = p.scheme; block = option_map clear_view p.block; statements = map statement_view said }
 
 -- before the first line
 abbrev pub begun : {R : Type 0} → StateV R
@@ -138,14 +126,6 @@ block_rule c ws =
 pub data OuterV (R : Type 0) : Type 0 where
   begins_clear : ClearV → OuterV R
   asks : OpenV R → OuterV R
-
-abbrev pub clear_line_view : ClearLine → ClearLineV
-clear_line_view (GoesOn c) = goes_on (clear_view c)
-clear_line_view (Ends c) = ends (clear_view c)
-
-abbrev pub outer_view : {R : Type 0} → OuterLine R → OuterV R
-outer_view (BeginsClear c) = begins_clear (clear_view c)
-outer_view (Asks o) = asks (open_view o)
 
 module _ {R : Type 0} (k : Kind R) where
   -- `open COMMIT MATRIX B ELEMENT`

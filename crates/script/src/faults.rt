@@ -1,4 +1,4 @@
-// How other faults become those of a line.
+// How other faults become those of a line. Written out: a derived `From` does not say which fault it makes, and clauses name it.
 ghost use Rattle.std.specs.Prelude.{◌≡◌};
 ghost use Rattle.script.specs.declared.statement.LineError.TheVariants.{Refused, Memory};
 

@@ -2,7 +2,7 @@
 #![tactic(auto)]
 
 mod faults;
-mod hex;
+mod hexadecimal;
 mod lines;
 pub mod numbers;
 mod reader;
@@ -11,3 +11,4 @@ pub mod statement;
 mod text;
 pub mod values;
 pub mod whole;
+mod words;

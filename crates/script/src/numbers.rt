@@ -5,7 +5,7 @@ ghost use Rattle.script.specs.Values.{Wrote};
 
 use std::alloc::{AllocError, Global};
 
-// The number that a word writes: digits alone, and below 2^64.
+// The number that a word writes: digits alone, and below 2^64. Not by `parse`, which takes a plus sign.
 pub fn read_number(word: &[u8]) -> Option<u64>
     ensures { result ≡ number_of word.now }
 {

@@ -1,112 +1,166 @@
 // A script, line by line.
 ghost use Rattle.std.specs.Prelude.{◌≡◌, map, drop};
-ghost use Rattle.openings.specs.Coefficients.{clear_view, with_entry};
-ghost use Rattle.script.specs.Pieces.{seen};
-ghost use Rattle.script.specs.Reading.{LineRead};
-ghost use Rattle.script.specs.Rules.{on_ok, open_view, open_rule, numbers_rule, with_numbers, entry_rule, block_rule, clear_line_view, outer_rule, outer_view};
+ghost use Rattle.script.specs.Reading.{LineRead, Stepped, Ending};
+ghost use Rattle.script.specs.Rules.{on_ok, open_view, statement_view, open_rule, numbers_rule, with_numbers, begun, block_rule, after_clear, outer_rule, after_outer, rule_of};
 
 use crate::lines::{
-    commitment_word, has_words, number_word, read_clear, read_entry, small_number, word_at,
+    commitment_word, number_word, read_clear, read_entry, read_field, small_number,
 };
-use crate::statement::{ClearLine, LineError, OpenLine, OuterLine, What};
-use crate::text::is;
+use crate::statement::{FieldName, LineError, OpenLine, Script, ScriptError, Statement, What};
 use crate::values::read_element;
+use crate::words::Words;
 use elements::field::Field;
-use openings::clear::Clear;
+use openings::clear::{Clear, MatrixId};
 use std::alloc::Global;
+use std::marker::Model;
 
-pub(crate) fn read_open<E: Field>(heap: Global, words: &[&[u8]]) -> Result<OpenLine<E>, LineError>
-    ensures { LineRead (open_rule E.Field.kind (map seen words.now)) open_view result }
+fn read_open<E: Field>(heap: Global, words: &Words) -> Result<OpenLine<E>, LineError>
+    ensures { LineRead (open_rule E.Field.kind words.now) open_view result }
 {
-    if !has_words(words, 5) {
+    if words.len() != 5 {
         return Err(LineError::Refused(What::WordCount));
     }
-    let commitment = commitment_word(word_at(words, 1))?;
-    let matrix = number_word(word_at(words, 2))?;
-    let bits = number_word(word_at(words, 3))?;
-    let Some(point) = read_element(heap, word_at(words, 4))? else {
-        return Err(LineError::Refused(What::Element));
+    let id = MatrixId {
+        commitment: commitment_word(words.at(1))?,
+        matrix: number_word(words.at(2))?,
+        bits: number_word(words.at(3))?,
     };
-    Ok(OpenLine {
-        commitment,
-        matrix,
-        bits,
-        point,
-    })
+    let point = read_element(heap, words.at(4))?.ok_or(What::Element)?;
+    Ok(OpenLine { id, point })
 }
 
-fn add_numbers(clear: &mut Clear, words: &[&[u8]]) -> Result<(), LineError>
-    ensures { LineRead (on_ok (with_numbers (clear_view clear.old)) (numbers_rule (map seen words.now))) (λ _. clear_view clear.new) result }
+// The numbers behind the first word of a line.
+fn add_numbers(clear: &mut Clear, words: &Words) -> Result<(), LineError>
+    ensures { LineRead (on_ok (with_numbers clear.old) (numbers_rule (drop 1 words.now))) (λ _. clear.new) result }
 {
-    for word in words {
-        let Some(number) = small_number(word) else {
-            return Err(LineError::Refused(What::SmallNumber));
-        };
+    for word in words.after_first() {
+        let number = small_number(word).ok_or(What::SmallNumber)?;
         clear.add_number(number)?;
     }
     Ok(())
 }
 
-// The words of a line but for the first.
-fn after_first<'a, 'b>(words: &'b [&'a [u8]]) -> &'b [&'a [u8]]
-    ensures { map seen result.now ≡ drop 1 (map seen words.now) }
-{
-    if words.is_empty() {
-        return words;
-    }
-    &words[1..]
-}
-
-fn numbers_line(mut clear: Clear, words: &[&[u8]]) -> Result<Clear, LineError>
-    ensures { LineRead (on_ok (with_numbers (clear_view clear)) (numbers_rule (drop 1 (map seen words.now)))) clear_view result }
-{
-    add_numbers(&mut clear, after_first(words))?;
-    Ok(clear)
-}
-
-fn entry_line(mut clear: Clear, words: &[&[u8]]) -> Result<Clear, LineError>
-    ensures { LineRead (on_ok (with_entry (clear_view clear)) (entry_rule (map seen words.now))) clear_view result }
-{
-    let entry = read_entry(words)?;
-    clear.add_entry(entry)?;
-    Ok(clear)
-}
-
-// A line of a clear block.
-pub(crate) fn block_line(clear: Clear, words: &[&[u8]]) -> Result<ClearLine, LineError>
-    ensures { LineRead (block_rule (clear_view clear) (map seen words.now)) clear_line_view result }
-{
-    if is(word_at(words, 0), "numbers") {
-        return Ok(ClearLine::GoesOn(numbers_line(clear, words)?));
-    }
-    if is(word_at(words, 0), "entry") {
-        return Ok(ClearLine::GoesOn(entry_line(clear, words)?));
-    }
-    if !is(word_at(words, 0), "end") {
-        return Err(LineError::Refused(What::UnknownWord));
-    }
-    if !has_words(words, 1) {
-        return Err(LineError::Refused(What::WordCount));
-    }
-    Ok(ClearLine::Ends(clear))
-}
-
-// A line between blocks.
-pub(crate) fn outer_line<E: Field>(
-    heap: Global,
+// How far a script is read: its field, whether a scheme stands, the block that is open, and what was said.
+#[derive(Drop)]
+pub(crate) struct Reader<E> {
+    field: Option<FieldName>,
     scheme: bool,
-    words: &[&[u8]],
-) -> Result<OuterLine<E>, LineError>
-    ensures { LineRead (outer_rule E.Field.kind scheme (map seen words.now)) outer_view result }
-{
-    if is(word_at(words, 0), "clear") {
-        return Ok(OuterLine::BeginsClear(read_clear(heap, words)?));
+    block: Option<Clear>,
+    statements: Vec<Statement<E>>,
+}
+
+// Clauses see a reader as the state of the rules.
+impl<E> Model for Reader<E> {
+    ghost use Rattle.std.specs.Prelude.{map, vec_items};
+    ghost use Rattle.script.specs.Rules.{StateV, statement_view};
+
+    ghost Value = { StateV E };
+
+    ghost view = { λ r. record {
+      field = r.field;
+      scheme = r.scheme;
+      block = r.block;
+      statements = map statement_view (vec_items r.statements);
+    } };
+}
+
+impl<E: Field> Reader<E> {
+    pub(crate) fn new(heap: Global) -> Reader<E>
+        ensures { result ≡ begun }
+    {
+        Reader {
+            field: None,
+            scheme: false,
+            block: None,
+            statements: Vec::new(heap),
+        }
     }
-    if !is(word_at(words, 0), "open") {
-        return Err(LineError::Refused(What::UnknownWord));
+
+    // One line more. Where no rule takes it, nothing is said.
+    pub(crate) fn take(&mut self, heap: Global, words: &Words) -> Result<(), LineError>
+        ensures { Stepped (rule_of E.Field.kind self.old words.now) self.old self.new result }
+    {
+        if words.is_empty() {
+            return Ok(());
+        }
+        if self.field.is_none() {
+            self.field = Some(read_field(words)?);
+            return Ok(());
+        }
+        match self.block.take() {
+            None => self.outer_line(heap, words),
+            Some(clear) => self.block_line(clear, words),
+        }
     }
-    if !scheme {
-        return Err(LineError::Refused(What::NoScheme));
+
+    // A line between blocks.
+    fn outer_line(&mut self, heap: Global, words: &Words) -> Result<(), LineError>
+        requires { self.old.block ≡ None }
+        ensures { Stepped
+            (on_ok (after_outer E.Field.kind self.old) (outer_rule E.Field.kind self.old.scheme words.now))
+            self.old self.new result }
+    {
+        if words.is(0, "clear") {
+            self.block = Some(read_clear(heap, words)?);
+            return Ok(());
+        }
+        if !words.is(0, "open") {
+            return Err(LineError::Refused(What::UnknownWord));
+        }
+        if !self.scheme {
+            return Err(LineError::Refused(What::NoScheme));
+        }
+        let open = read_open(heap, words)?;
+        self.statements.push(Statement::Open(open))?;
+        Ok(())
     }
-    Ok(OuterLine::Asks(read_open(heap, words)?))
+
+    // A line of a clear block, which was taken out.
+    fn block_line(&mut self, mut clear: Clear, words: &Words) -> Result<(), LineError>
+        requires { self.old.block ≡ None }
+        ensures { Stepped
+            (on_ok (after_clear E.Field.kind self.old) (block_rule clear words.now))
+            self.old self.new result }
+    {
+        if words.is(0, "numbers") {
+            add_numbers(&mut clear, words)?;
+            self.block = Some(clear);
+            return Ok(());
+        }
+        if words.is(0, "entry") {
+            clear.add_entry(read_entry(words)?)?;
+            self.block = Some(clear);
+            return Ok(());
+        }
+        if !words.is(0, "end") {
+            return Err(LineError::Refused(What::UnknownWord));
+        }
+        if words.len() != 1 {
+            return Err(LineError::Refused(What::WordCount));
+        }
+        self.statements.push(Statement::Clear(clear))?;
+        self.scheme = true;
+        Ok(())
+    }
+
+    // What is wrong with a script that ends here.
+    pub(crate) fn unended(&self, line: usize) -> Option<ScriptError>
+        ensures { Ending self.now line result }
+    {
+        let what = match (self.field, &self.block) {
+            (None, _) => What::FieldFirst,
+            (_, Some(_)) => What::NoEnd,
+            _ => return None,
+        };
+        Some(ScriptError { line, what })
+    }
+
+    // What was said, and why no more can be read.
+    pub(crate) fn script(self, error: Option<ScriptError>) -> Script<E>
+        ensures said { map statement_view result.statements.items ≡ self.statements }
+        ensures error { result.error ≡ error }
+    {
+        let Reader { statements, .. } = self;
+        Script { statements, error }
+    }
 }

@@ -1,21 +1,18 @@
 // What is printed of a script.
-ghost use Rattle.std.specs.Prelude.{◌≡◌, ◌++◌, map, IfOk, None, vec_items, string_bytes, OnOk};
-ghost use Rattle.std.specs.List.{flat_map};
+ghost use Rattle.std.specs.Prelude.{◌≡◌, map, IfOk, Some, None, vec_items, string_bytes};
 ghost use Rattle.std.specs.Option.{option_map};
-ghost use Rattle.openings.specs.Coefficients.{clear_view};
-ghost use Rattle.script.specs.Replies.{fault_text_of, what_text_of, error_text_of, after_blank, held_text_of, held_in, asked_text_of, replies_of, standing, Answered};
+ghost use Rattle.script.specs.Replies.{what_text_of, error_text_of, answers_text_of, held_text_of, held_in, asked_text_of, replies_of, standing, Answered};
 ghost use Rattle.script.specs.Pieces.{lines_of, words_of};
 ghost use Rattle.script.specs.Rules.{open_view, statement_view};
 
-use crate::numbers::write_number;
 use crate::statement::{Answers, OpenLine, ScriptError, Statement, What};
-use crate::values::write_element;
+use crate::values::Written;
 use crate::whole::read;
-use elements::fault::ElementError;
-use elements::fault::told::Fault;
 use elements::field::Field;
 use openings::clear::Clear;
 use std::alloc::{AllocError, Global};
+use std::error::Error;
+use std::fmt;
 
 impl What {
     pub fn text(self) -> &'static str
@@ -37,52 +34,63 @@ impl What {
     }
 }
 
+impl fmt::Display for What {
+    ghost output = { λ w. Some (what_text_of w) };
+
+    fn fmt<W: fmt::Write>(&self, f: &mut fmt::Formatter<W>) -> fmt::Result {
+        f.write_str(self.text())
+    }
+}
+
+impl fmt::Display for ScriptError {
+    ghost output = { λ e. Some (error_text_of e) };
+
+    fn fmt<W: fmt::Write>(&self, f: &mut fmt::Formatter<W>) -> fmt::Result {
+        write!(f, "script error: line {}: {}", self.line, self.what)
+    }
+}
+
+impl Error for ScriptError {}
+
+// The line that says it, as a text.
 pub fn error_text(heap: Global, error: ScriptError) -> Result<String, AllocError>
     ensures { IfOk result (λ s. string_bytes s ≡ error_text_of error) }
 {
-    let line = error.line;
-    let what = error.what.text();
-    let text = format!(in heap; "script error: line {line}: {what}")?;
-    Ok(text)
+    error.to_string(heap)
 }
 
-// A fault's number and its word.
-fn write_fault<F: Fault>(heap: Global, out: &mut String, fault: &F) -> Result<(), AllocError>
-    ensures { OnOk result (string_bytes out.new ≡ string_bytes out.old ++ fault_text_of (F.Fault.fault fault.now)) }
-{
-    write_number(heap, out, u64::from(fault.number()))?;
-    out.push_str(" ")?;
-    out.push_str(fault.word())?;
-    Ok(())
-}
+// Each line, and then why the script could not be read on.
+impl fmt::Display for Answers {
+    ghost output = { λ a. Some (answers_text_of (map string_bytes a.lines.items) a.error) };
 
-// A blank and an element.
-fn write_after_blank<E: Field>(heap: Global, out: &mut String, value: E) -> Result<(), AllocError>
-    ensures { OnOk result (string_bytes out.new ≡ string_bytes out.old ++ after_blank E.Field.kind value) }
-{
-    out.push_str(" ")?;
-    write_element(heap, out, value)?;
-    Ok(())
-}
-
-fn write_values<E: Field>(heap: Global, out: &mut String, values: &[E]) -> Result<(), AllocError>
-    ensures { OnOk result (string_bytes out.new ≡ string_bytes out.old ++ flat_map (after_blank E.Field.kind) values.now) }
-{
-    for value in values {
-        write_after_blank(heap, out, *value)?;
+    fn fmt<W: fmt::Write>(&self, f: &mut fmt::Formatter<W>) -> fmt::Result {
+        for line in self.lines.iter() {
+            writeln!(f, "{line}")?;
+        }
+        if let Some(error) = self.error {
+            writeln!(f, "{error}")?;
+        }
+        Ok(())
     }
-    Ok(())
 }
 
-fn held_text<E: Field>(heap: Global, held: Option<Vec<E>>) -> Result<String, AllocError>
-    ensures { IfOk result (λ s. string_bytes s ≡ held_text_of E.Field.kind (option_map vec_items held)) }
-{
-    let Some(values) = held else {
-        return String::from_str(heap, "open none");
-    };
-    let mut out = String::from_str(heap, "open")?;
-    write_values(heap, &mut out, values.as_slice())?;
-    Ok(out)
+// What a scheme holds at a place: its values, or that there are none.
+#[derive(Drop)]
+struct HeldValues<E>(Option<Vec<E>>);
+
+impl<E: Field> fmt::Display for HeldValues<E> {
+    ghost output = { λ h. Some (held_text_of E.Field.kind (option_map vec_items h.0)) };
+
+    fn fmt<W: fmt::Write>(&self, f: &mut fmt::Formatter<W>) -> fmt::Result {
+        let Some(values) = &self.0 else {
+            return f.write_str("open none");
+        };
+        f.write_str("open")?;
+        for value in values.iter() {
+            write!(f, " {}", Written(*value))?;
+        }
+        Ok(())
+    }
 }
 
 // The values that a scheme holds at a place; without a scheme there are none.
@@ -94,10 +102,7 @@ fn held<E: Field>(
 ) -> Result<Option<Vec<E>>, AllocError>
     ensures { IfOk result (λ o. option_map vec_items o ≡ held_in E.Field.kind (standing scheme.entry) (open_view asked.now) point) }
 {
-    match scheme {
-        None => Ok(None),
-        Some(clear) => clear.values(heap, &asked.commitment, asked.matrix, asked.bits, point),
-    }
+    scheme.map_or(Ok(None), |clear| clear.values(heap, &asked.id, point))
 }
 
 // The line that answers a question.
@@ -109,12 +114,8 @@ fn reply<E: Field>(
     ensures { IfOk result (λ s. string_bytes s ≡ asked_text_of E.Field.kind (standing scheme.entry) (open_view asked.now) (open_view asked.now).point) }
 {
     match asked.point {
-        Ok(point) => held_text(heap, held(heap, scheme, asked, point)?),
-        Err(fault) => {
-            let mut out = String::from_str(heap, "open refused ")?;
-            write_fault(heap, &mut out, &fault)?;
-            Ok(out)
-        }
+        Ok(point) => HeldValues(held(heap, scheme, asked, point)?).to_string(heap),
+        Err(fault) => format!(in heap; "open refused {fault}"),
     }
 }
 

@@ -1,20 +1,21 @@
 // Elements and commitments as words.
-ghost use Rattle.std.specs.Prelude.{◌≡◌, ◌++◌, map, IfOk, Some, vec_items, string_bytes, OnOk, OnErr};
-ghost use Rattle.std.specs.List.{flat_map};
+ghost use Rattle.std.specs.Prelude.{◌≡◌, map, IfOk, Some, vec_items, string_bytes, OnOk, OnErr};
 ghost use Rattle.std.specs.Option.{option_map};
 ghost use Rattle.std.specs.Result.{result_ok};
 ghost use Rattle.script.specs.Hexadecimal.{commitment_of, hex_of};
 ghost use Rattle.script.specs.Numerals.{number_of};
 ghost use Rattle.script.specs.Pieces.{seen};
-ghost use Rattle.script.specs.Values.{Wrote, bytes_of, all_of, coefficients_of, offered_element, element_of, comma_before, commaed, written_element};
+ghost use Rattle.script.specs.Values.{Wrote, bytes_of, all_of, coefficients_of, offered_element, element_of, commaed, written_element};
 
-use crate::hex::{hex_bytes, write_hex};
-use crate::numbers::{read_number, write_number};
+use crate::hexadecimal::{hex_bytes, write_hex};
+use crate::numbers::read_number;
 use crate::text::{Separator, split};
 use elements::commitment::Commitment;
 use elements::fault::ElementError;
 use elements::field::Field;
 use std::alloc::{AllocError, Global};
+use std::convert::AsSlice;
+use std::fmt;
 
 pub fn read_commitment(word: &[u8]) -> Option<Commitment>
     ensures { option_map bytes_of result ≡ commitment_of word.now }
@@ -23,12 +24,13 @@ pub fn read_commitment(word: &[u8]) -> Option<Commitment>
     Some(Commitment { bytes })
 }
 
+// Adds a commitment to a text, in one piece; without memory for it nothing is added.
 pub fn write_commitment(out: &mut String, commitment: &Commitment) -> Result<(), AllocError>
-    ensures { OnOk result (Wrote (string_bytes out.old) (string_bytes out.new) (hex_of commitment.now.bytes)
+    ensures wrote { OnOk result (Wrote (string_bytes out.old) (string_bytes out.new) (hex_of commitment.now.bytes)
         (commitment_of (hex_of commitment.now.bytes) ≡ Some commitment.now.bytes)) }
+    ensures kept { OnErr result (string_bytes out.new ≡ string_bytes out.old) }
 {
-    write_hex(out, &commitment.bytes)?;
-    Ok(())
+    write_hex(out, &commitment.bytes)
 }
 
 // The numbers that parts of a word write, where each of them is one.
@@ -53,8 +55,7 @@ fn read_coefficients<E: Field>(heap: Global, word: &[u8]) -> Result<Option<Vec<u
     if parts.len() != E::dimension() {
         return Ok(None);
     }
-    let numbers = read_all(heap, parts.as_slice())?;
-    Ok(numbers)
+    read_all(heap, parts.as_slice())
 }
 
 // An element as it was offered: `None` where the word is not D numbers.
@@ -64,48 +65,46 @@ pub fn read_element<E: Field>(
 ) -> Result<Option<Result<E, ElementError>>, AllocError>
     ensures { IfOk result (λ o. option_map result_ok o ≡ element_of E.Field.kind word.now) }
 {
-    let Some(numbers) = read_coefficients::<E>(heap, word)? else {
-        return Ok(None);
-    };
-    Ok(Some(offered(numbers.as_slice())))
+    let numbers = read_coefficients::<E>(heap, word)?;
+    Ok(numbers.map(|numbers| offered(numbers.as_slice())))
 }
 
 fn offered<E: Field>(coefficients: &[u64]) -> Result<E, ElementError>
     ensures { result_ok result ≡ offered_element E.Field.kind coefficients.now }
 {
-    match E::from_coefficients(coefficients) {
-        None => Err(ElementError::Canonical),
-        Some(element) => Ok(element),
+    E::from_coefficients(coefficients).ok_or(ElementError::Canonical)
+}
+
+// Numbers with commas between.
+#[derive(Drop)]
+struct Commaed<'a>(&'a [u32]);
+
+impl fmt::Display for Commaed<'_> {
+    ghost output = { λ c. Some (commaed c.0.now) };
+
+    fn fmt<W: fmt::Write>(&self, f: &mut fmt::Formatter<W>) -> fmt::Result {
+        let Some((first, rest)) = self.0.split_first() else {
+            return Ok(());
+        };
+        write!(f, "{first}")?;
+        for number in rest {
+            write!(f, ",{number}")?;
+        }
+        Ok(())
     }
 }
 
-// A number behind a comma.
-fn write_after_comma(heap: Global, out: &mut String, number: u32) -> Result<(), AllocError>
-    ensures { OnOk result (string_bytes out.new ≡ string_bytes out.old ++ comma_before number) }
-{
-    out.push_str(",")?;
-    write_number(heap, out, u64::from(number))?;
-    Ok(())
-}
+// An element as its coefficients.
+#[derive(Drop)]
+pub(crate) struct Written<E>(pub(crate) E);
 
-fn write_all_after_commas(heap: Global, out: &mut String, numbers: &[u32]) -> Result<(), AllocError>
-    ensures { OnOk result (string_bytes out.new ≡ string_bytes out.old ++ flat_map comma_before numbers.now) }
-{
-    for number in numbers {
-        write_after_comma(heap, out, *number)?;
-    }
-    Ok(())
-}
+impl<E: Field> fmt::Display for Written<E> {
+    ghost output = { λ w. Some (written_element E.Field.kind w.0) };
 
-fn write_commaed(heap: Global, out: &mut String, numbers: &[u32]) -> Result<(), AllocError>
-    ensures { OnOk result (string_bytes out.new ≡ string_bytes out.old ++ commaed numbers.now) }
-{
-    if numbers.is_empty() {
-        return Ok(());
+    fn fmt<W: fmt::Write>(&self, f: &mut fmt::Formatter<W>) -> fmt::Result {
+        let coefficients = self.0.coefficients();
+        write!(f, "{}", Commaed(coefficients.as_slice()))
     }
-    write_number(heap, out, u64::from(numbers[0]))?;
-    write_all_after_commas(heap, out, &numbers[1..])?;
-    Ok(())
 }
 
 // Adds an element to a text, in one piece; without memory for it nothing is added.
@@ -114,9 +113,7 @@ pub fn write_element<E: Field>(heap: Global, out: &mut String, element: E) -> Re
         (element_of E.Field.kind (written_element E.Field.kind element) ≡ Some (Some element))) }
     ensures kept { OnErr result (string_bytes out.new ≡ string_bytes out.old) }
 {
-    let coefficients = element.coefficients();
-    let mut text = String::new(heap);
-    write_commaed(heap, &mut text, coefficients.as_slice())?;
+    let text = Written(element).to_string(heap)?;
     out.push_str(text.as_str())?;
     Ok(())
 }

@@ -2,20 +2,13 @@
 #![tactic(auto)]
 
 use elements::f257::F257;
-use script::replies::{answer, error_text};
+use script::replies::answer;
 use std::{env, fs};
 
 fn show(rt: &HostRuntime, name: &str) -> anyhow::Result<()> {
-    let heap = rt.alloc();
     let text = fs::read(rt, name)?;
     println!(rt; "== {name}")?;
-    let answers = answer::<F257>(heap, text.as_slice())?;
-    for line in answers.lines.iter() {
-        rt.println(line.as_str())?;
-    }
-    if let Some(error) = answers.error {
-        rt.println(error_text(heap, error)?)?;
-    }
+    rt.print(answer::<F257>(rt.alloc(), text.as_slice())?)?;
     Ok(())
 }
 

@@ -7,10 +7,11 @@ ghost use Rattle.elements.specs.Norm.{even, odd, norm_of, conjugate, evenly};
 use crate::babybear::product::product;
 use crate::babybear::{BabyBear, BaseNumber};
 
+#[tactic(auto, unfolding(crate::specs::Modulo::residues))]
 fn zero() -> BaseNumber
     ensures { result ≡ base.zero }
 {
-    BaseNumber { value: 0 }
+    BaseNumber::reduced(0)
 }
 
 fn eleven() -> BaseNumber
@@ -70,11 +71,7 @@ pub(crate) fn inverse(a: BabyBear) -> Option<BabyBear>
 {
     let even = even_part(a);
     let odd = odd_part(a);
-    match norm(even, odd).try_inverse() {
-        Some(y) => {
-            let other = even_element(even.mul(y), odd.mul(y).neg());
-            Some(product(conjugated(a), other))
-        }
-        None => None,
-    }
+    let y = norm(even, odd).try_inverse()?;
+    let other = even_element(even.mul(y), odd.mul(y).neg());
+    Some(product(conjugated(a), other))
 }

@@ -1,14 +1,12 @@
 // The kind BabyBear.
-ghost use Rattle.std.specs.Prelude.{◌≡◌, ◌<◌, ◌≤◌};
+ghost use Rattle.std.specs.Prelude.{◌≡◌};
 ghost use Rattle.elements.specs.Bear.{bear, babybear};
 ghost use Rattle.elements.specs.Kind.{pow};
 ghost use Rattle.elements.specs.BearLaws.{babybear_laws};
 
-use crate::babybear::base::P;
 use crate::babybear::inverse::inverse;
 use crate::babybear::product::product;
-use crate::babybear::{BabyBear, BaseNumber};
-use crate::coefficients::Coefficients;
+use crate::babybear::{BabyBear, BaseNumber, P};
 use crate::field::Field;
 
 // w(27) is 31^15, and each before it the square of the next.
@@ -19,16 +17,8 @@ const ROOTS: [u32; 28] = [
     1149491290, 975630072, 440564289,
 ];
 
-// The root that the table has.
-fn listed_root(n: usize) -> u32
-    requires { n ≤ 27 }
-    ensures below { result < 2013265921 }
-    ensures value { result ≡ babybear.root n }
-{
-    ROOTS[n]
-}
-
 // The element with these coefficients, each read modulo p.
+#[tactic(auto, using(crate::specs::BearLaws::alike))]
 fn element(a: u64, b: u64, c: u64, d: u64) -> BabyBear
     ensures { result ≡ bear a b c d }
 {
@@ -40,25 +30,10 @@ fn element(a: u64, b: u64, c: u64, d: u64) -> BabyBear
     }
 }
 
-// x to the power n, by repeated squaring. `exp_u64` is for kinds, and BabyBear becomes one only below, with the help of this.
-fn power(x: BabyBear, n: u64) -> BabyBear
-    ensures { result ≡ pow babybear x n }
-{
-    let mut power = element(1, 0, 0, 0);
-    let mut base = x;
-    let mut left = n;
-    while left > 0 {
-        if left % 2 == 1 {
-            power = product(power, base);
-        }
-        base = product(base, base);
-        left /= 2;
-    }
-    power
-}
-
 impl Field for BabyBear {
     ghost kind = { babybear };
+
+    type Coefficients = [u32; 4];
 
     ghost lawful = { babybear_laws };
 
@@ -82,6 +57,7 @@ impl Field for BabyBear {
         element(1, 0, 0, 0)
     }
 
+    // Coordinate by coordinate, as `neg`: a helper that takes a closure proves too, but is longer than what it would save.
     fn add(self, other: BabyBear) -> BabyBear {
         BabyBear {
             c0: self.c0.add(other.c0),
@@ -92,12 +68,7 @@ impl Field for BabyBear {
     }
 
     fn sub(self, other: BabyBear) -> BabyBear {
-        BabyBear {
-            c0: self.c0.sub(other.c0),
-            c1: self.c1.sub(other.c1),
-            c2: self.c2.sub(other.c2),
-            c3: self.c3.sub(other.c3),
-        }
+        self.add(other.neg())
     }
 
     fn mul(self, other: BabyBear) -> BabyBear {
@@ -121,8 +92,8 @@ impl Field for BabyBear {
         element(u64::from(number), 0, 0, 0)
     }
 
-    fn basis_power(e: u64) -> BabyBear {
-        power(element(0, 1, 0, 0), e)
+    fn basis() -> BabyBear {
+        element(0, 1, 0, 0)
     }
 
     fn generator() -> BabyBear {
@@ -130,25 +101,21 @@ impl Field for BabyBear {
     }
 
     fn two_adic_generator(bits: usize) -> Option<BabyBear> {
-        if bits > 27 {
-            return None;
-        }
-        Some(element(u64::from(listed_root(bits)), 0, 0, 0))
+        let root = ROOTS.get(bits)?;
+        Some(element(u64::from(*root), 0, 0, 0))
     }
 
-    fn coefficients(self) -> Coefficients {
-        Coefficients::four(self.c0.value, self.c1.value, self.c2.value, self.c3.value)
+    fn coefficients(self) -> [u32; 4] {
+        [self.c0.value, self.c1.value, self.c2.value, self.c3.value]
     }
 
     fn from_coefficients(offered: &[u64]) -> Option<BabyBear> {
-        if offered.len() != 4 {
-            return None;
+        match offered {
+            [a, b, c, d] if offered.iter().all(|n| *n < P as u64) => {
+                Some(element(*a, *b, *c, *d))
+            }
+            _ => None,
         }
-        let p = P as u64;
-        if offered[0] >= p || offered[1] >= p || offered[2] >= p || offered[3] >= p {
-            return None;
-        }
-        Some(element(offered[0], offered[1], offered[2], offered[3]))
     }
 }
 

@@ -15,7 +15,8 @@ fn wrapped(low: u64, high: u64) -> BaseNumber
     BaseNumber::reduced(low + upper * 939524073 + lower * 11)
 }
 
-// The coefficients of a product. Products are added before they are reduced: 64 bits hold four of them.
+// The coefficients of a product. Products are added before they are reduced: 64 bits hold four of them. They stay four functions: each has
+// its own number of products before and after x^4 (the last has none after), and a loop over pairs would have to ask at each pair.
 fn coefficient0(a: BabyBear, b: BabyBear) -> BaseNumber
     ensures { result ≡ (times a b).c0 }
 {

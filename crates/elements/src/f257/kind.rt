@@ -1,13 +1,13 @@
 // The kind F257, modulo 257.
-ghost use Rattle.std.specs.Prelude.{◌≡◌, ◌*◌, ◌%◌, ◌<◌, ◌≤◌};
+ghost use Rattle.std.specs.Prelude.{◌≡◌};
 ghost use Rattle.elements.specs.Mod257.{f257};
 ghost use Rattle.elements.specs.Laws257.{f257_laws};
 
-use crate::coefficients::Coefficients;
 use crate::f257::F257;
 use crate::field::Field;
+use crate::residue::Residue;
 
-// The inverse of each number, and 0 at 0.
+// The inverse of each number. The 0 at 0 is never read; it keeps each inverse at its number's own place, which is plainer than a shift.
 const INVERSES: [u16; 257] = [
     0, 1, 129, 86, 193, 103, 43, 147, 225, 200, 180, 187, 150, 178, 202, 120, 241, 121, 100, 230,
     90, 49, 222, 190, 75, 72, 89, 238, 101, 195, 60, 199, 249, 148, 189, 235, 50, 132, 115, 145,
@@ -27,26 +27,10 @@ const INVERSES: [u16; 257] = [
 // w(7) is 9, and each before it the square of the next.
 const ROOTS: [u16; 8] = [1, 256, 241, 64, 249, 136, 81, 9];
 
-// The inverse that the table has of a number.
-fn listed_inverse(n: u16) -> u16
-    requires { n < 257 }
-    ensures below { result < 257 }
-    ensures times { 0 < n → (n * result) % 257 ≡ 1 }
-{
-    INVERSES[n as usize]
-}
-
-// The root that the table has.
-fn listed_root(n: usize) -> u16
-    requires { n ≤ 7 }
-    ensures below { result < 257 }
-    ensures value { result ≡ f257.root n }
-{
-    ROOTS[n]
-}
-
 impl Field for F257 {
     ghost kind = { f257 };
+
+    type Coefficients = [u32; 1];
 
     ghost lawful = { f257_laws };
 
@@ -63,79 +47,63 @@ impl Field for F257 {
     }
 
     fn zero() -> F257 {
-        F257 { value: 0 }
+        F257::reduced(0)
     }
 
     fn one() -> F257 {
-        F257 { value: 1 }
+        F257::reduced(1)
     }
 
     fn add(self, other: F257) -> F257 {
-        F257 {
-            value: (self.value + other.value) % 257,
-        }
+        Residue::add(self, other)
     }
 
     fn sub(self, other: F257) -> F257 {
-        F257 {
-            value: (self.value + (257 - other.value)) % 257,
-        }
+        Residue::sub(self, other)
     }
 
     fn mul(self, other: F257) -> F257 {
-        let wide = u32::from(self.value) * u32::from(other.value);
-        F257 {
-            value: (wide % 257) as u16,
-        }
+        Residue::mul(self, other)
     }
 
     fn neg(self) -> F257 {
-        F257 {
-            value: (257 - self.value) % 257,
-        }
+        Residue::neg(self)
     }
 
     fn try_inverse(self) -> Option<F257> {
         if self.value == 0 {
             return None;
         }
-        let value = listed_inverse(self.value);
-        Some(F257 { value })
+        let inverse = INVERSES[self.value as usize];
+        Some(F257::reduced(u64::from(inverse)))
     }
 
     fn from_u32(number: u32) -> F257 {
-        F257 {
-            value: (number % 257) as u16,
-        }
+        F257::reduced(u64::from(number))
     }
 
-    fn basis_power(_e: u64) -> F257 {
-        F257 { value: 1 }
+    fn basis() -> F257 {
+        F257::reduced(1)
     }
 
     fn generator() -> F257 {
-        F257 { value: 3 }
+        F257::reduced(3)
     }
 
     fn two_adic_generator(bits: usize) -> Option<F257> {
-        if bits > 7 {
-            return None;
-        }
-        let value = listed_root(bits);
-        Some(F257 { value })
+        let root = ROOTS.get(bits)?;
+        Some(F257::reduced(u64::from(*root)))
     }
 
-    fn coefficients(self) -> Coefficients {
-        Coefficients::single(u32::from(self.value))
+    fn coefficients(self) -> [u32; 1] {
+        [self.value]
     }
 
     fn from_coefficients(offered: &[u64]) -> Option<F257> {
-        if offered.len() != 1 || offered[0] >= 257 {
-            return None;
+        match offered {
+            [number] if *number < 257 => Some(F257::reduced(*number)),
+            _ => None,
         }
-        Some(F257 {
-            value: offered[0] as u16,
-        })
     }
 }
 
@@ -144,5 +112,5 @@ pub fn second_root() -> u16
     ensures value { result ≡ f257.root 2 }
     ensures number { result ≡ 241 }
 {
-    listed_root(2)
+    ROOTS[2]
 }

@@ -1,4 +1,4 @@
-use Rattle.std.proofs.Common.{◌≡◌, zero, sym, ap, ◌∙◌, arith}
+use Rattle.std.proofs.Common.{ap, ◌∙◌, arith}
 use Rattle.elements.specs.Kind.{pow}
 use Rattle.elements.specs.Operations.{operations}
 use Rattle.elements.specs.KindRing.{ring_of}
@@ -24,10 +24,3 @@ loop-left-init g c =
     let k = g.E.Field.kind in
     let p = pow k c.args.x c.args.n in
     ap (λ a. k.times a p) c.one-power.ensures ∙ one_times (operations k) (ring_of k g.met.E.Field.lawful.ring) p
-
-pub returns : goal.returns
-returns g c =
-    let k = g.E.Field.kind in
-    let z : c.loop-left.left ≡ zero = omega arith in
-    sym (g.met.E.Field.lawful.ring.times_one c.loop-left.power)
-    ∙ ap (λ n. k.times c.loop-left.power (pow k c.loop-left.base n)) (sym z) ∙ c.loop-left.invariant

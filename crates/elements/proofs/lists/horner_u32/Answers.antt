@@ -1,29 +1,25 @@
-use Rattle.std.proofs.Common.{map, ap, ◌∙◌}
-use Rattle.std.specs.Slice.Iter.{iter_rest}
-use Rattle.std.specs.Iterator.Adapters.{rev_source}
-use Rattle.std.proofs.lemmas.List.{length-map, map_push}
+use Rattle.std.proofs.Common.{◌≡◌, rules, List, [], ◌∷◌, ◌++◌, map, reverse, refl, sym, ap, ◌∙◌}
+use mathlib.Core.List.{map-map, reverse-cons}
+use Rattle.std.proofs.lemmas.List.{map_push}
 use Rattle.elements.specs.KindRing.{ring_of}
-use Rattle.elements.specs.Folds.{fold_reverse, fold_back_more, fold_back_all}
+use Rattle.elements.specs.Folds.{fold_reverse}
+use Rattle.elements.specs.Sums.{fold}
 use Rattle.elements.proofs.lists.horner_u32.Goals as goal
 
-pub loop-c-init : goal.loop-c-init
-loop-c-init g c =
-    let k = g.E.Field.kind in
-    let e = fold_reverse k (ring_of k g.met.E.Field.lawful.ring) c.args.point (map k.embed c.args.coefficients.now) in
-    cc
-
-pub loop-c-preserved : goal.loop-c-preserved
-loop-c-preserved g c =
-    let embed = g.E.Field.kind.embed in
-    let before = iter_rest (rev_source c.loop-c.c-iterator) in
-    let after = iter_rest (rev_source c.next.new.self) in
-    let n = c.in-Some.c.now in
-    let s = ap (map embed) c.in-Some.ensures.steps ∙ map_push embed after n in
-    let e = fold_back_more g.E.Field.kind c.args.point c.loop-c.acc (map embed before) (map embed after) (embed n) s in
-    cc
+map_reverse : {A B : Type 0} (f : A → B) (xs : List A) → map f (reverse xs) ≡ reverse (map f xs)
+map_reverse f [] = refl
+map_reverse f (x ∷ xs) =
+    ap (map f) (reverse-cons x xs) ∙ map_push f (reverse xs) x ∙ ap (λ ys. ys ++ (f x ∷ [])) (map_reverse f xs)
+    ∙ sym (reverse-cons (f x) (map f xs))
 
 pub returns : goal.returns
 returns g c =
     let k = g.E.Field.kind in
-    let e = fold_back_all k c.args.point c.loop-c.acc _ (length-map _ k.embed ∙ c.in-None.ensures.steps.0) in
-    cc
+    let ns = c.args.coefficients.now in
+    let p = c.fold_in.ensures in
+    let q = c.map.ensures.runs p.0 p.0.seen p.1 in
+    let elements = q.2.3 (λ n. k.embed n.now) (λ n r f h. search rules) in
+    let numbers : map (λ n. n.now) q.0.items ≡ reverse ns = search rules in
+    p.3
+    ∙ ap (fold k c.args.point k.zero) (elements ∙ sym (map-map k.embed (λ n. n.now) q.0.items) ∙ ap (map k.embed) numbers ∙ map_reverse k.embed ns)
+    ∙ fold_reverse k (ring_of k g.met.E.Field.lawful.ring) c.args.point (map k.embed ns)

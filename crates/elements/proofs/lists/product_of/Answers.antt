@@ -1,31 +1,14 @@
-use Rattle.std.proofs.Common.{◌+◌, drop, ap, ◌∙◌}
-use Rattle.std.proofs.lemmas.List.{at_drop_more, at_drop_all}
-use Rattle.elements.specs.Operations.{operations}
-use Rattle.elements.specs.Sums.{product}
+use Rattle.std.proofs.Common.{rules}
+use Rattle.std.proofs.lemmas.Iterator.{YieldsList-from_slice}
+use Rattle.std.proofs.lemmas.Iterator.Consumers.{fold_from_yields_List}
 use Rattle.elements.specs.KindRing.{ring_of}
-use Rattle.elements.specs.RingFacts.{one_times}
+use Rattle.elements.proofs.Totals.{fold_product}
 use Rattle.elements.proofs.lists.product_of.Goals as goal
-
-pub loop-v-init : goal.loop-v-init
-loop-v-init g c =
-    let k = g.E.Field.kind in
-    let all = product k c.args.values.now in
-    ap (λ a. k.times a all) c.one-acc.ensures ∙ one_times (operations k) (ring_of k g.met.E.Field.lawful.ring) all
-
-pub loop-v-preserved : goal.loop-v-preserved
-loop-v-preserved g c =
-    let k = g.E.Field.kind in
-    let acc = c.loop-v.acc in
-    let v = c.v-item.result in
-    let vs = c.args.values.now in
-    let e = at_drop_more (λ us. k.times acc (product k us)) vs c.loop-v.v-index v c.loop-v-test.true in
-    let a = g.met.E.Field.lawful.ring.times_assoc acc v (product k (drop (c.loop-v.v-index + 1) vs)) in
-    cc c.v-item.is
 
 pub returns : goal.returns
 returns g c =
     let k = g.E.Field.kind in
-    let acc = c.loop-v.acc in
-    let e = at_drop_all (λ us. k.times acc (product k us)) c.args.values.now c.loop-v.v-index c.loop-v-test.false in
-    let a = g.met.E.Field.lawful.ring.times_one acc in
+    let vs = c.args.values.now in
+    let multiplied = fold_from_yields_List _ k.times _ _ c.fold.ensures.ran (YieldsList-from_slice vs cc) (λ a x b q h. search rules) in
+    let e = fold_product k (ring_of k g.met.E.Field.lawful.ring) vs in
     cc

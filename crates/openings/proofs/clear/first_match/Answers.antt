@@ -1,19 +1,17 @@
-use Rattle.std.proofs.Common.{◌∙◌}
+use Rattle.std.proofs.Common.{rules, tests, ap, ◌∙◌}
+use Rattle.std.specs.Option.{option_map}
+use Rattle.std.proofs.lemmas.Iterator.{YieldsList-from_slice}
+use Rattle.std.proofs.lemmas.Iterator.Search.{find_from_yields_List}
 use Rattle.openings.specs.Coefficients.{entry_view, matches}
-use Rattle.openings.proofs.First.{first_here, first_later, first_nowhere}
+use Rattle.openings.proofs.First.{find-map}
 use Rattle.openings.proofs.clear.first_match.Goals as goal
-
-pub returns-then-is_of : goal.returns-then-is_of
-returns-then-is_of c =
-    let f = matches c.args.commitment.now.bytes c.args.matrix c.args.bits in
-    first_here f entry_view c.args.entries.now c.loop-entry.entry-index _ c.loop-entry-test.true c.if-is_of.ensures ∙ c.loop-entry.invariant
-
-pub loop-entry-preserved : goal.loop-entry-preserved
-loop-entry-preserved c =
-    let f = matches c.args.commitment.now.bytes c.args.matrix c.args.bits in
-    first_later f entry_view c.args.entries.now c.loop-entry.entry-index _ c.loop-entry-test.true c.if-is_of.ensures ∙ c.loop-entry.invariant
 
 pub returns : goal.returns
 returns c =
-    let f = matches c.args.commitment.now.bytes c.args.matrix c.args.bits in
-    first_nowhere f entry_view c.args.entries.now c.loop-entry.entry-index c.loop-entry-test.false ∙ c.loop-entry.invariant
+    let id = c.args.id.now in
+    let test = matches id.commitment.bytes id.matrix id.bits in
+    let entries = c.args.entries.now in
+    let found =
+    find_from_yields_List (λ e. test (entry_view e)) _ _ c.find.result c.find.ensures.ran
+    (YieldsList-from_slice entries cc) (λ x b q k. search (rules, tests)) in
+    ap (option_map entry_view) (c.copied.ensures ∙ found) ∙ find-map test entry_view entries

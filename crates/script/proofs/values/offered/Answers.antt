@@ -1,8 +1,7 @@
-use Rattle.script.proofs.Offering.{offered_is}
+use Rattle.std.proofs.Common.{◌∙◌, ap}
+use Rattle.std.specs.Result.{result_ok}
+use Rattle.script.proofs.Offering.{offered_is, ok_again}
 use Rattle.script.proofs.values.offered.Goals as goal
 
-pub returns-in-None : goal.returns-in-None
-returns-in-None g c = offered_is g.E.Field.kind g.met.E.Field.lawful _ _ c.in-None.ensures
-
-pub returns-in-Some : goal.returns-in-Some
-returns-in-Some g c = offered_is g.E.Field.kind g.met.E.Field.lawful _ _ c.in-Some.ensures
+pub returns : goal.returns
+returns g c = ap result_ok c.ok_or.ensures.value ∙ ok_again _ _ ∙ offered_is g.E.Field.kind g.met.E.Field.lawful _ _ c.from_coefficients.ensures

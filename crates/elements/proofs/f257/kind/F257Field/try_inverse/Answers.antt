@@ -1,13 +1,18 @@
 use Rattle.std.proofs.Common.{◌≡◌, ◌*◌, ◌%◌, ◌<◌, ap, ◌∙◌, zero-mul, arith}
-use Rattle.elements.specs.Mod257.{f257}
-use Rattle.elements.specs.declared.f257.F257.{F257}
 use Rattle.elements.specs.Inverse.{same_inverse}
-use Rattle.elements.specs.Laws257.{f257_laws}
-use Rattle.elements.specs.Ring257.{same, residues_ring}
+use Rattle.elements.specs.Laws257.{ring, f257_laws}
+use Rattle.elements.specs.Mod257.{f257}
+use Rattle.elements.specs.ModLemmas.{mul_mod_mod}
+use Rattle.elements.specs.Modulo.{residues}
+use Rattle.elements.specs.ResidueRing.{same}
+use Rattle.elements.specs.declared.f257.kind.TheConstants.{INVERSES}
+use Rattle.elements.specs.declared.residue.Residue.{Residue}
+use Rattle.elements.proofs.Tables.{inverse_entry}
 use Rattle.elements.proofs.f257.kind.F257Field.try_inverse.Goals as goal
 
 -- no product with 0 is 1
-no_inverse : (x y : F257) → x.value ≡ 0 → f257.times x y ≡ f257.one → ⊥
+no_inverse : (x y : Residue 257) → x.value ≡ 0 → f257.times x y ≡ f257.one → ⊥
+unfolding residues
 no_inverse x y z e =
     let zero_is : x.value * y.value ≡ 0 = ap (λ n. n * y.value) z ∙ zero-mul y.value in
     let rest_zero : (x.value * y.value) % 257 ≡ 0 = ap (λ n. n % 257) zero_is in
@@ -17,10 +22,14 @@ no_inverse x y z e =
 pub returns-then-self-eq0 : goal.returns-then-self-eq0
 returns-then-self-eq0 c =
     let x = c.args.self in
-    same_inverse f257 residues_ring x _ _ (λ y e. no_inverse x y c.if-self-eq0.true e) (f257_laws.inverses x)
+    same_inverse f257 ring x _ _ (λ y e. no_inverse x y c.if-self-eq0.true e) (f257_laws.inverses x)
 
 pub returns : goal.returns
+unfolding residues
 returns c =
     let x = c.args.self in
+    let n = c.from.result in
     let pos : 0 < x.value = omega arith in
-    same_inverse f257 residues_ring x _ _ (same _ _ (c.listed_inverse-value.ensures.times pos)) (f257_laws.inverses x)
+    let product : x.value * c.reduced.result.value % 257 ≡ 1
+    = ap (λ m. x.value * m % 257) c.reduced.ensures ∙ mul_mod_mod x.value n 257 ∙ inverse_entry INVERSES x.value n pos x.below c.from.ensures tt in
+    same_inverse f257 ring x _ _ (same _ _ product) (f257_laws.inverses x)

@@ -1,6 +1,0 @@
-use Rattle.std.proofs.Common.{refl}
-use Rattle.elements.specs.Ring257.{same}
-use Rattle.elements.proofs.f257.kind.F257Field.zero.Goals as goal
-
-pub returns : goal.returns
-returns c = same _ _ refl

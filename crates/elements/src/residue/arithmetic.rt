@@ -1,0 +1,62 @@
+// Sums and products modulo P. The casts by `as` lose nothing, as the check proves; `try_from` would only add an `unwrap`.
+ghost use Rattle.std.specs.Prelude.{◌≡◌, ◌-◌, ◌*◌, ◌%◌, ◌<◌, ◌≤◌};
+ghost use Rattle.elements.specs.Modulo.{residues_of};
+
+use crate::residue::Residue;
+
+#[tactic(auto, unfolding(crate::specs::Modulo::residues))]
+impl<const P: u32> Residue<P> {
+    // A number read modulo P.
+    pub(crate) fn reduced(number: u64) -> Residue<P>
+        requires { 0 < P }
+        ensures { result.value ≡ number % P }
+    {
+        Residue {
+            value: (number % P as u64) as u32,
+        }
+    }
+
+    pub(crate) fn add(self, other: Residue<P>) -> Residue<P>
+        ensures { result ≡ (residues_of self.entry).plus self.entry other.entry }
+    {
+        let sum = u64::from(self.value) + u64::from(other.value);
+        if sum >= P as u64 {
+            return Residue {
+                value: (sum - P as u64) as u32,
+            };
+        }
+        Residue { value: sum as u32 }
+    }
+
+    pub(crate) fn sub(self, other: Residue<P>) -> Residue<P>
+        ensures { result
+            ≡ (residues_of self.entry).plus self.entry ((residues_of other.entry).minus other.entry) }
+    {
+        self.add(other.neg())
+    }
+
+    pub(crate) fn neg(self) -> Residue<P>
+        ensures { result ≡ (residues_of self.entry).minus self.entry }
+    {
+        if self.value == 0 {
+            return self;
+        }
+        Residue {
+            value: P - self.value,
+        }
+    }
+
+    // The product, not reduced. Where P is below 2^31, four of them can be added in 64 bits.
+    pub(crate) fn wide_product(self, other: Residue<P>) -> u64
+        ensures value { result ≡ self.entry.value * other.entry.value }
+        ensures most { result ≤ (P - 1) * (P - 1) }
+    {
+        u64::from(self.value) * u64::from(other.value)
+    }
+
+    pub(crate) fn mul(self, other: Residue<P>) -> Residue<P>
+        ensures { result ≡ (residues_of self.entry).times self.entry other.entry }
+    {
+        Residue::reduced(self.wide_product(other))
+    }
+}
