@@ -69,8 +69,9 @@ fn run_all(rt: &HostRuntime) -> anyhow::Result<bool> {
 }
 
 fn main(rt: HostRuntime) -> anyhow::Result<ExitCode> {
-    if run_all(&rt)? {
-        return Ok(ExitCode::SUCCESS);
-    }
-    Ok(ExitCode::FAILURE)
+    Ok(if run_all(&rt)? {
+        ExitCode::SUCCESS
+    } else {
+        ExitCode::FAILURE
+    })
 }

@@ -9,16 +9,15 @@ use elements::field::Field;
 use elements::laws::consequences;
 use elements::lists::exp_u64;
 use script::numbers::read_number;
-use script::values::{read_element, write_element};
+use script::values::{Written, read_element};
 use std::alloc::Global;
 use std::{env, fs};
 
 // The element that a word writes.
 fn operand<E: Field>(heap: Global, word: &str) -> anyhow::Result<E> {
-    match read_element(heap, word.as_bytes())? {
-        Some(Ok(element)) => Ok(element),
-        _ => Err(anyhow!("a word is no element")),
-    }
+    read_element(heap, word.as_bytes())?
+        .and_then(|offered| offered.ok())
+        .context("a word is no element")
 }
 
 fn number(word: &str) -> anyhow::Result<u64> {
@@ -31,7 +30,7 @@ fn at_most_32_bits(word: &str) -> anyhow::Result<u32> {
         .context("a number does not fit 32 bits")
 }
 
-// The answer to a question with these words, where there is one.
+// The answer to a question with these words, where there is one. A `usize` holds every `u64` here, so `as` loses nothing.
 fn answer<E: Field>(heap: Global, words: &[&str]) -> anyhow::Result<Option<E>> {
     let element = |word: &str| operand::<E>(heap, word);
     match words {
@@ -45,6 +44,7 @@ fn answer<E: Field>(heap: Global, words: &[&str]) -> anyhow::Result<Option<E>> {
         ["difference", a, b, ..] => Ok(Some(element(a)?.sub(element(b)?))),
         ["product", a, b, ..] => Ok(Some(element(a)?.mul(element(b)?))),
         ["power", a, n, ..] => Ok(Some(exp_u64(element(a)?, number(n)?))),
+        // the operand is looked at first, so that a wrong one is named before a wrong question
         [_, a, ..] => {
             element(a)?;
             Err(anyhow!("a line asks for nothing known"))
@@ -53,13 +53,10 @@ fn answer<E: Field>(heap: Global, words: &[&str]) -> anyhow::Result<Option<E>> {
 }
 
 fn show<E: Field>(rt: &HostRuntime, words: &[&str], line: &str) -> anyhow::Result<()> {
-    let heap = rt.alloc();
-    let mut text = String::new(heap);
-    match answer::<E>(heap, words)? {
-        None => text.push_str("none")?,
-        Some(value) => write_element(heap, &mut text, value)?,
+    match answer::<E>(rt.alloc(), words)? {
+        None => println!(rt; "{line} = none")?,
+        Some(value) => println!(rt; "{line} = {}", Written(value))?,
     }
-    println!(rt; "{line} = {text}")?;
     Ok(())
 }
 
@@ -86,10 +83,7 @@ fn show_all(rt: &HostRuntime) -> anyhow::Result<()> {
     // what follows from the laws holds of both kinds
     consequences::<F257>();
     consequences::<BabyBear>();
-    let heap = rt.alloc();
-    let mut text = String::new(heap);
-    write_element(heap, &mut text, x_times_x_cubed())?;
-    println!(rt; "x*x^3 = {text}")?;
+    println!(rt; "x*x^3 = {}", Written(x_times_x_cubed()))?;
     for name in env::args(rt)?.skip(1) {
         show_file(rt, name.as_str())?;
     }

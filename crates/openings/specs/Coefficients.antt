@@ -4,6 +4,7 @@ use Rattle.std.specs.List.{range_with_len}
 use Rattle.std.specs.Str.{bytes_eq}
 use Rattle.elements.specs.Kind.{Kind, evaluated}
 use Rattle.openings.specs.declared.clear.ClearEntry.{ClearEntry}
+use Rattle.openings.specs.declared.clear.MatrixId.{MatrixId}
 
 -- A matrix of some columns, 2^bits coefficients each, one column after the other from a place in the list of numbers.
 pub record EntryV : Type 0 where
@@ -36,6 +37,9 @@ with_number c n = record { zk = c.zk; smallest = c.smallest; largest = c.largest
 -- the entry is of this commitment, matrix and degree bits
 abbrev pub matches : List ℕ → ℕ → ℕ → EntryV → Bool
 matches commitment matrix bits e = bytes_eq e.commitment commitment && (e.matrix == matrix && e.bits == bits)
+
+abbrev pub of_id : MatrixId → EntryV → Bool
+of_id id = matches id.commitment.bytes id.matrix id.bits
 
 -- one past the last place that the entry takes
 abbrev pub reach : EntryV → ℕ

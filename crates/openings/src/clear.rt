@@ -2,7 +2,7 @@
 ghost use Rattle.std.specs.Prelude.{◌≡◌, ◌+◌, ◌*◌, ◌^◌, ◌<◌, ◌≤◌, map, length, find, IfOk, vec_items, MatchOption, MatchResult};
 ghost use Rattle.std.specs.Option.{option_map};
 ghost use Rattle.elements.specs.Kind.{evaluated};
-ghost use Rattle.openings.specs.Coefficients.{ClearV, entry_view, empty_clear, with_entry, with_number, matches, reach, column_of, columns_at, held_at, held_by};
+ghost use Rattle.openings.specs.Coefficients.{ClearV, entry_view, empty_clear, with_entry, with_number, of_id, reach, column_of, columns_at, held_at, held_by};
 
 use elements::commitment::Commitment;
 use elements::field::Field;
@@ -10,7 +10,7 @@ use elements::lists::horner_u32;
 use std::alloc::{AllocError, Global};
 use std::marker::Model;
 
-// The bits of a `usize`.
+// The bits of a `usize`. Not `usize::BITS` with `checked_shl`, which are of `u32`: each would be converted.
 const WORD_BITS: usize = 64;
 
 // Which matrix of a commitment, and on 2^bits points.
@@ -21,7 +21,8 @@ pub struct MatrixId {
     pub bits: usize,
 }
 
-// A matrix: `columns` polynomials of 2^bits coefficients, one after the other from `start`.
+// A matrix: `columns` polynomials of 2^bits coefficients, one after the other from `start`. Plain data, which clauses see by `entry_view`: a model
+// would hide the fields that they name.
 #[derive(Clone, Copy)]
 pub struct ClearEntry {
     pub id: MatrixId,
@@ -91,25 +92,22 @@ impl Clear {
     ) -> Result<Option<Vec<E>>, AllocError>
         ensures { IfOk result (λ held. option_map vec_items held ≡ held_at E.Field.kind self.now id.now.commitment.bytes id.now.matrix id.now.bits point) }
     {
-        let Some(entry) = first_match(self.entries.as_slice(), id) else {
-            return Ok(None);
-        };
-        let Some(columns) = Columns::new(entry, self.numbers.as_slice()) else {
-            return Ok(None);
-        };
-        let values = columns.values(heap, point)?;
-        Ok(Some(values))
+        let entry = first_match(self.entries.as_slice(), id);
+        let columns = entry.and_then(|entry| Columns::new(entry, self.numbers.as_slice()));
+        columns
+            .map(|columns| columns.values(heap, point))
+            .transpose()
     }
 }
 
 fn is_of(entry: &ClearEntry, id: &MatrixId) -> bool
-    ensures { result ≡ matches id.now.commitment.bytes id.now.matrix id.now.bits (entry_view entry.now) }
+    ensures { result ≡ of_id id.now (entry_view entry.now) }
 {
     entry.id == *id
 }
 
 fn first_match(entries: &[ClearEntry], id: &MatrixId) -> Option<ClearEntry>
-    ensures { option_map entry_view result ≡ find (matches id.now.commitment.bytes id.now.matrix id.now.bits) (map entry_view entries.now) }
+    ensures { option_map entry_view result ≡ find (of_id id.now) (map entry_view entries.now) }
 {
     entries.iter().find(|entry| is_of(entry, id)).copied()
 }
@@ -118,6 +116,7 @@ fn first_match(entries: &[ClearEntry], id: &MatrixId) -> Option<ClearEntry>
 fn column_size(entry: ClearEntry, len: usize) -> Option<usize>
     ensures { MatchOption result (len < reach (entry_view entry)) (λ size. (reach (entry_view entry) ≤ len) × (0 < entry.columns → size ≡ 2 ^ entry.id.bits)) }
 {
+    // An entry of no columns has no size; any will do.
     if entry.columns == 0 {
         return (entry.start <= len).then_some(1);
     }
@@ -132,20 +131,20 @@ fn column_size(entry: ClearEntry, len: usize) -> Option<usize>
 // An entry whose columns lie within a list of numbers.
 #[derive(Clone, Copy)]
 struct Columns<'a> {
-    table: ClearEntry,
+    entry: ClearEntry,
     numbers: &'a [u32],
     size: usize,
-    ghost within: { reach (entry_view table) ≤ length numbers.now },
-    ghost column: { 0 < table.columns → size ≡ 2 ^ table.id.bits },
+    ghost within: { reach (entry_view entry) ≤ length numbers.now },
+    ghost size_of_column: { 0 < entry.columns → size ≡ 2 ^ entry.id.bits },
 }
 
 impl<'a> Columns<'a> {
-    fn new(table: ClearEntry, numbers: &'a [u32]) -> Option<Columns<'a>>
-        ensures { MatchOption result (length numbers.now < reach (entry_view table)) (λ columns. (columns.table ≡ table) × (columns.numbers.now ≡ numbers.now)) }
+    fn new(entry: ClearEntry, numbers: &'a [u32]) -> Option<Columns<'a>>
+        ensures { MatchOption result (length numbers.now < reach (entry_view entry)) (λ columns. (columns.entry ≡ entry) × (columns.numbers.now ≡ numbers.now)) }
     {
-        let size = column_size(table, numbers.len())?;
+        let size = column_size(entry, numbers.len())?;
         Some(Columns {
-            table,
+            entry,
             numbers,
             size,
         })
@@ -153,17 +152,17 @@ impl<'a> Columns<'a> {
 
     // The polynomial of one column at the point.
     fn value<E: Field>(&self, column: usize, point: E) -> E
-        requires { column < self.now.table.columns }
-        ensures { result ≡ evaluated E.kind point (map E.kind.embed (column_of self.now.numbers.now (entry_view self.now.table) column)) }
+        requires { column < self.now.entry.columns }
+        ensures { result ≡ evaluated E.kind point (map E.kind.embed (column_of self.now.numbers.now (entry_view self.now.entry) column)) }
     {
-        let from = self.table.start + column * self.size;
+        let from = self.entry.start + column * self.size;
         horner_u32(&self.numbers[from..from + self.size], point)
     }
 
     fn values<E: Field>(&self, heap: Global, point: E) -> Result<Vec<E>, AllocError>
-        ensures { IfOk result (λ v. v.items ≡ columns_at E.Field.kind self.now.numbers.now (entry_view self.now.table) point) }
+        ensures { IfOk result (λ v. v.items ≡ columns_at E.Field.kind self.now.numbers.now (entry_view self.now.entry) point) }
     {
-        (0..self.table.columns)
+        (0..self.entry.columns)
             .map(|column| self.value(column, point))
             .collect(heap)
     }

@@ -1,24 +1,23 @@
 -- Hexadecimal digits, two by two. Assumes nothing.
-use Rattle.std.proofs.Common.{◌≡◌, ℕ, ◌+◌, ◌-◌, ◌*◌, ◌/◌, ◌%◌, ◌^◌, ◌<◌, ◌≤◌, true, false, cond, ltb, leb, List, [], ◌∷◌, ◌++◌}
-use Rattle.std.proofs.Common.{length, get_or, take, drop, replicate, Some, None, Ok, Err, Option, Result, sym, refl, ap, ◌∙◌, append-nil, inl, inr, arith, lt-ltb, le-leb}
-use Rattle.std.specs.Prelude.{MatchResult}
+use Rattle.std.proofs.Common.{◌≡◌, ℕ, ◌+◌, ◌*◌, ◌/◌, ◌%◌, ◌<◌, ◌≤◌, true, cond, ltb, leb, List, [], ◌∷◌, ◌++◌}
+use Rattle.std.proofs.Common.{length, get_or, drop, replicate, Some, None, Ok, Err, Option, Result, sym, refl, ap, ◌∙◌, append-nil, inl, inr, arith, lt-ltb, le-leb, eqb, eqb→eq}
+use Rattle.std.specs.Prelude.{MatchResult, slice_index}
 use Rattle.std.specs.Option.{option_map}
 use Rattle.std.specs.Result.{result_ok}
 use Rattle.std.specs.Char.{digit_value, digit_char}
-use Rattle.std.specs.Fmt.{digits, padded_integral, format_spec}
 use Rattle.std.specs.List.{All}
 use Rattle.std.proofs.lemmas.Bool.{cases_eq}
-use Rattle.std.proofs.lemmas.Fmt.{hex_byte as hex_byte_shown}
 use Rattle.std.proofs.lemmas.Grind.{common_steps}
-use Rattle.std.proofs.lemmas.List.{drop-replicate, flat_map_more, take_more}
+use Rattle.std.proofs.lemmas.List.{drop-replicate}
 use Rattle.std.proofs.lemmas.List.Elements.{All-head, All-tail, All-from_get_or}
 use Rattle.std.proofs.lemmas.Str.{digit_value-digit_char}
-use Rattle.hex.specs.Hex.{decode_pairs, decode_sized, hex_digit_value, pair_value, ◌>>=◌}
+use Rattle.hex.specs.Hex.{lower_digits, encode_with, encode_lower, decode_pairs, decode_sized, hex_digit_value, pair_value, ◌>>=◌}
 use Rattle.hex.specs.declared.error.FromHexError.{FromHexError}
 use Rattle.hex.specs.declared.error.FromHexError.TheVariants.{OddLength}
 use Rattle.hex.proofs.Pairs.{decode_sized-pairs}
+use Rattle.elements.specs.Below.{below_at}
 use Rattle.script.specs.Values.{cons_to}
-use Rattle.script.specs.Hexadecimal.{hexadecimal, pair_of, pairs_of, commitment_of, hex_byte, hex_of}
+use Rattle.script.specs.Hexadecimal.{hexadecimal, pair_of, pairs_of, commitment_of, hex_of}
 
 -- the library reads digits as the specs do
 digit_read : (c : ℕ) → hex_digit_value c ≡ cond (hexadecimal c) (Some (digit_value c)) None
@@ -72,6 +71,17 @@ decoded w n half new r answered = sym (sized w n half) ∙ told (decode_sized w 
 pub filled : (w new : List ℕ) → length w ≤ 64 → length new ≡ length w / 2 → pairs_of w ≡ Some new → Some (new ++ drop (length w / 2) (replicate 32 0)) ≡ commitment_of w
 filled w new short full e = simp (drop-replicate, e, le-leb (length w) 64 short, full)
 
+-- the library writes digits as the specs do
+nibble : (d : ℕ) → d < 16 → slice_index lower_digits d ≡ digit_char d
+nibble d h = eqb→eq _ _ (below_at (λ i. eqb (slice_index lower_digits i) (digit_char i)) 16 d tt h)
+
+pub encoded : (bs : List ℕ) → All (λ b. b < 256) bs → encode_lower bs ≡ hex_of bs
+unfolding encode_with
+encoded [] h = refl
+encoded (b ∷ bs) h =
+    let small : b < 256 = All-head (λ b. b < 256) b bs h in
+    simp (nibble (b / 16) (omega arith), nibble (b % 16) (omega arith), encoded bs (All-tail (λ b. b < 256) b bs h))
+
 -- bytes that are written read back as themselves
 pair_back : (b : ℕ) → b < 256 → pair_of (digit_char (b / 16)) (digit_char (b % 16)) ≡ Some b
 pair_back b h =
@@ -86,19 +96,15 @@ pairs_back : (bs : List ℕ) → All (λ b. b < 256) bs → pairs_of (hex_of bs)
 pairs_back [] h = refl
 pairs_back (b ∷ bs) h = ap (λ o. cons_to o (pairs_of (hex_of bs))) (pair_back b (All-head (λ b. b < 256) b bs h)) ∙ ap (option_map (λ cs. b ∷ cs)) (pairs_back bs (All-tail (λ b. b < 256) b bs h))
 
+pub all_bytes : (bs : List ℕ) → ((i : ℕ) → get_or bs i 0 < 256) → All (λ b. b < 256) bs
+all_bytes bs small = All-from_get_or (λ b. b < 256) bs 0 (λ i within. small i)
+
 length_hex : (bs : List ℕ) → length (hex_of bs) ≡ 2 * length bs
 length_hex [] = refl
 length_hex (b ∷ bs) = omega (arith, length_hex bs)
 
 pub bytes_back : (bs : List ℕ) → ((i : ℕ) → get_or bs i 0 < 256) → length bs ≡ 32 → commitment_of (hex_of bs) ≡ Some bs
 bytes_back bs small full =
-    let back = pairs_back bs (All-from_get_or (λ b. b < 256) bs 0 (λ i within. small i)) in
+    let back = pairs_back bs (all_bytes bs small) in
     let short : leb (length (hex_of bs)) 64 ≡ true = le-leb (length (hex_of bs)) 64 (omega (arith, length_hex bs)) in
     simp (short, back, full, append-nil)
-
--- a byte more is shown
-pub one_shown : (bs : List ℕ) (i : ℕ) → i < length bs → get_or bs i 0 < 256
-    → hex_of (take i bs) ++ padded_integral (format_spec 32 0 4 2 (2 ^ 64 - 1)) false [] (digits 16 false (get_or bs i 0)) ≡ hex_of (take (i + 1) bs)
-one_shown bs i h small =
-    ap (λ l. hex_of (take i bs) ++ l) (hex_byte_shown false (get_or bs i 0) small)
-    ∙ flat_map_more hex_byte [] (take i bs) (get_or bs i 0) ∙ ap hex_of (sym (take_more bs i 0 h))

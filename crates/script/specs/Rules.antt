@@ -4,6 +4,7 @@ use Rattle.std.specs.Option.{ok_or}
 use Rattle.std.specs.Result.{result_ok}
 use Rattle.std.specs.Str.{bytes_eq}
 use Rattle.elements.specs.Kind.{Kind}
+use Rattle.openings.specs.declared.clear.MatrixId.{MatrixId}
 use Rattle.openings.specs.Coefficients.{EntryV, ClearV, empty_clear, with_entry}
 use Rattle.script.specs.Hexadecimal.{commitment_of}
 use Rattle.script.specs.Numerals.{number_of}
@@ -26,6 +27,12 @@ abbrev pub on_ok : {X Y W : Type 0} → (X → Y) → Result X W → Result Y W
 on_ok f (Ok x) = Ok (f x)
 on_ok f (Err why) = Err why
 
+-- Which matrix of a commitment, and its degree bits.
+pub record IdV : Type 0 where
+  pub commitment : List ℕ
+  pub matrix : ℕ
+  pub bits : ℕ
+
 -- A question: the values at a point, which is absent where its coefficients were refused.
 pub record OpenV (R : Type 0) : Type 0 where
   pub commitment : List ℕ
@@ -43,6 +50,9 @@ pub record StateV (R : Type 0) : Type 0 where
   pub scheme : Bool
   pub block : Option ClearV
   pub statements : List (StatementV R)
+
+abbrev pub id_view : MatrixId → IdV
+id_view id = record { commitment = id.commitment.bytes; matrix = id.matrix; bits = id.bits }
 
 abbrev pub open_view : {R : Type 0} → OpenLine R → OpenV R
 open_view o = record { commitment = o.id.commitment.bytes; matrix = o.id.matrix; bits = o.id.bits; point = result_ok o.point }
@@ -93,12 +103,18 @@ clear_rule ws =
     (then (flag_of (word ws 1)) (λ zk. then (number_of_word (word ws 2)) (λ low. then (number_of_word (word ws 3)) (λ high. Ok (empty_clear zk low high)))))
     (Err WordCount)
 
+-- `COMMIT MATRIX B`, three words of a line
+unfoldable pub id_rule : List ℕ → List ℕ → List ℕ → Result IdV What
+id_rule commitment matrix bits =
+    then (commitment_of_word commitment) (λ c. then (number_of_word matrix) (λ m. then (number_of_word bits) (λ b.
+    Ok (record { commitment = c; matrix = m; bits = b }))))
+
 -- `entry COMMIT MATRIX B START COLUMNS`
 abbrev pub entry_rule : List (List ℕ) → Result EntryV What
 entry_rule ws =
     cond (length ws == 6)
-    (then (commitment_of_word (word ws 1)) (λ c. then (number_of_word (word ws 2)) (λ m. then (number_of_word (word ws 3)) (λ b. then (number_of_word (word ws 4)) (λ s. then (number_of_word (word ws 5)) (λ n.
-    Ok (record { commitment = c; matrix = m; bits = b; start = s; columns = n })))))))
+    (then (id_rule (word ws 1) (word ws 2) (word ws 3)) (λ id. then (number_of_word (word ws 4)) (λ s. then (number_of_word (word ws 5)) (λ n.
+    Ok (record { commitment = id.commitment; matrix = id.matrix; bits = id.bits; start = s; columns = n })))))
     (Err WordCount)
 
 -- `numbers N N ..`
@@ -132,8 +148,8 @@ module _ {R : Type 0} (k : Kind R) where
   abbrev pub open_rule : List (List ℕ) → Result (OpenV R) What
   open_rule ws =
       cond (length ws == 5)
-      (then (commitment_of_word (word ws 1)) (λ c. then (number_of_word (word ws 2)) (λ m. then (number_of_word (word ws 3)) (λ b. then (ok_or (element_of k (word ws 4)) NoElement) (λ p.
-      Ok (record { commitment = c; matrix = m; bits = b; point = p }))))))
+      (then (id_rule (word ws 1) (word ws 2) (word ws 3)) (λ id. then (ok_or (element_of k (word ws 4)) NoElement) (λ p.
+      Ok (record { commitment = id.commitment; matrix = id.matrix; bits = id.bits; point = p }))))
       (Err WordCount)
 
   -- a line between blocks begins one, or asks the scheme that stands

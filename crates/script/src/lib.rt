@@ -1,6 +1,7 @@
 // The text form of scripts: how it is read, and how answers are written.
 #![tactic(auto)]
 
+mod adding;
 mod faults;
 mod hexadecimal;
 mod lines;

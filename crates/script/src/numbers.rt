@@ -3,9 +3,11 @@ ghost use Rattle.std.specs.Prelude.{◌≡◌, Some, string_bytes, decimal, OnOk
 ghost use Rattle.script.specs.Numerals.{number_of};
 ghost use Rattle.script.specs.Values.{Wrote};
 
+use crate::adding::add;
 use std::alloc::{AllocError, Global};
 
-// The number that a word writes: digits alone, and below 2^64. Not by `parse`, which takes a plus sign.
+// The number that a word writes: digits alone, and below 2^64. Not by `parse`: it takes a plus sign, so each
+// byte would be looked at first all the same, and the bytes made a text.
 pub fn read_number(word: &[u8]) -> Option<u64>
     ensures { result ≡ number_of word.now }
 {
@@ -29,7 +31,5 @@ pub fn write_number(heap: Global, out: &mut String, number: u64) -> Result<(), A
     ensures wrote { OnOk result (Wrote (string_bytes out.old) (string_bytes out.new) (decimal number) (number_of (decimal number) ≡ Some number)) }
     ensures kept { OnErr result (string_bytes out.new ≡ string_bytes out.old) }
 {
-    let digits = format!(in heap; "{number}")?;
-    out.push_str(digits.as_str())?;
-    Ok(())
+    add(heap, out, &number)
 }

@@ -3,29 +3,23 @@ ghost use Rattle.std.specs.Prelude.{◌≡◌, map, drop};
 ghost use Rattle.script.specs.Reading.{LineRead, Stepped, Ending};
 ghost use Rattle.script.specs.Rules.{on_ok, open_view, statement_view, open_rule, numbers_rule, with_numbers, begun, block_rule, after_clear, outer_rule, after_outer, rule_of};
 
-use crate::lines::{
-    commitment_word, number_word, read_clear, read_entry, read_field, small_number,
-};
+use crate::lines::{matrix_id, read_clear, read_entry, read_field, small_number};
 use crate::statement::{FieldName, LineError, OpenLine, Script, ScriptError, Statement, What};
 use crate::values::read_element;
 use crate::words::Words;
 use elements::field::Field;
-use openings::clear::{Clear, MatrixId};
+use openings::clear::Clear;
 use std::alloc::Global;
 use std::marker::Model;
 
 fn read_open<E: Field>(heap: Global, words: &Words) -> Result<OpenLine<E>, LineError>
     ensures { LineRead (open_rule E.Field.kind words.now) open_view result }
 {
-    if words.len() != 5 {
+    let [_, commitment, matrix, bits, point] = words.as_slice() else {
         return Err(LineError::Refused(What::WordCount));
-    }
-    let id = MatrixId {
-        commitment: commitment_word(words.at(1))?,
-        matrix: number_word(words.at(2))?,
-        bits: number_word(words.at(3))?,
     };
-    let point = read_element(heap, words.at(4))?.ok_or(What::Element)?;
+    let id = matrix_id(commitment, matrix, bits)?;
+    let point = read_element(heap, point)?.ok_or(What::Element)?;
     Ok(OpenLine { id, point })
 }
 
@@ -43,6 +37,7 @@ fn add_numbers(clear: &mut Clear, words: &Words) -> Result<(), LineError>
 // How far a script is read: its field, whether a scheme stands, the block that is open, and what was said.
 #[derive(Drop)]
 pub(crate) struct Reader<E> {
+    heap: Global,
     field: Option<FieldName>,
     scheme: bool,
     block: Option<Clear>,
@@ -69,6 +64,7 @@ impl<E: Field> Reader<E> {
         ensures { result ≡ begun }
     {
         Reader {
+            heap,
             field: None,
             scheme: false,
             block: None,
@@ -76,8 +72,8 @@ impl<E: Field> Reader<E> {
         }
     }
 
-    // One line more. Where no rule takes it, nothing is said.
-    pub(crate) fn take(&mut self, heap: Global, words: &Words) -> Result<(), LineError>
+    // One line more. Where no rule takes it, nothing is said, and no line can be taken after it: the open block is gone.
+    pub(crate) fn take(&mut self, words: &Words) -> Result<(), LineError>
         ensures { Stepped (rule_of E.Field.kind self.old words.now) self.old self.new result }
     {
         if words.is_empty() {
@@ -88,29 +84,29 @@ impl<E: Field> Reader<E> {
             return Ok(());
         }
         match self.block.take() {
-            None => self.outer_line(heap, words),
+            None => self.outer_line(words),
             Some(clear) => self.block_line(clear, words),
         }
     }
 
     // A line between blocks.
-    fn outer_line(&mut self, heap: Global, words: &Words) -> Result<(), LineError>
+    fn outer_line(&mut self, words: &Words) -> Result<(), LineError>
         requires { self.old.block ≡ None }
         ensures { Stepped
             (on_ok (after_outer E.Field.kind self.old) (outer_rule E.Field.kind self.old.scheme words.now))
             self.old self.new result }
     {
-        if words.is(0, "clear") {
-            self.block = Some(read_clear(heap, words)?);
+        if words.begins_with("clear") {
+            self.block = Some(read_clear(self.heap, words)?);
             return Ok(());
         }
-        if !words.is(0, "open") {
+        if !words.begins_with("open") {
             return Err(LineError::Refused(What::UnknownWord));
         }
         if !self.scheme {
             return Err(LineError::Refused(What::NoScheme));
         }
-        let open = read_open(heap, words)?;
+        let open = read_open(self.heap, words)?;
         self.statements.push(Statement::Open(open))?;
         Ok(())
     }
@@ -122,17 +118,17 @@ impl<E: Field> Reader<E> {
             (on_ok (after_clear E.Field.kind self.old) (block_rule clear words.now))
             self.old self.new result }
     {
-        if words.is(0, "numbers") {
+        if words.begins_with("numbers") {
             add_numbers(&mut clear, words)?;
             self.block = Some(clear);
             return Ok(());
         }
-        if words.is(0, "entry") {
+        if words.begins_with("entry") {
             clear.add_entry(read_entry(words)?)?;
             self.block = Some(clear);
             return Ok(());
         }
-        if !words.is(0, "end") {
+        if !words.begins_with("end") {
             return Err(LineError::Refused(What::UnknownWord));
         }
         if words.len() != 1 {

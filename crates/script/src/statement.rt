@@ -8,7 +8,7 @@ pub enum FieldName {
     F257,
 }
 
-// An `open` line: which values stand at this point?
+// An `open` line: which values stand at this point? Plain data, which clauses see by `open_view`: a model would hide the fields that they name.
 #[derive(Clone, Copy)]
 pub struct OpenLine<E> {
     pub id: MatrixId,

@@ -1,4 +1,4 @@
-// A text cut into lines, words and parts of words.
+// A text cut into parts.
 ghost use Rattle.std.specs.Prelude.{◌≡◌, map, IfOk};
 ghost use Rattle.script.specs.Pieces.{seen, cuts_at, pieces, uncommented};
 

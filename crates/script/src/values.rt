@@ -7,6 +7,7 @@ ghost use Rattle.script.specs.Numerals.{number_of};
 ghost use Rattle.script.specs.Pieces.{seen};
 ghost use Rattle.script.specs.Values.{Wrote, bytes_of, all_of, coefficients_of, offered_element, element_of, commaed, written_element};
 
+use crate::adding::add;
 use crate::hexadecimal::{hex_bytes, write_hex};
 use crate::numbers::read_number;
 use crate::text::{Separator, split};
@@ -33,7 +34,8 @@ pub fn write_commitment(out: &mut String, commitment: &Commitment) -> Result<(),
     write_hex(out, &commitment.bytes)
 }
 
-// The numbers that parts of a word write, where each of them is one.
+// The numbers that parts of a word write, where each of them is one. A `for`, since of a `collect` into an `Option` a proof does not know
+// that it is `None` where an item is.
 fn read_all(heap: Global, parts: &[&[u8]]) -> Result<Option<Vec<u64>>, AllocError>
     ensures { IfOk result (λ o. option_map vec_items o ≡ all_of number_of (map seen parts.now)) }
 {
@@ -96,7 +98,7 @@ impl fmt::Display for Commaed<'_> {
 
 // An element as its coefficients.
 #[derive(Drop)]
-pub(crate) struct Written<E>(pub(crate) E);
+pub struct Written<E>(pub E);
 
 impl<E: Field> fmt::Display for Written<E> {
     ghost output = { λ w. Some (written_element E.Field.kind w.0) };
@@ -113,7 +115,5 @@ pub fn write_element<E: Field>(heap: Global, out: &mut String, element: E) -> Re
         (element_of E.Field.kind (written_element E.Field.kind element) ≡ Some (Some element))) }
     ensures kept { OnErr result (string_bytes out.new ≡ string_bytes out.old) }
 {
-    let text = Written(element).to_string(heap)?;
-    out.push_str(text.as_str())?;
-    Ok(())
+    add(heap, out, &Written(element))
 }

@@ -17,7 +17,7 @@ fn read_lines<E: Field>(heap: Global, lines: &[&[u8]]) -> Result<Script<E>, Allo
     let mut reader = Reader::new(heap);
     for (i, line) in lines.iter().enumerate() {
         let words = Words::of(heap, line)?;
-        match reader.take(heap, &words) {
+        match reader.take(&words) {
             Ok(()) => {}
             Err(LineError::Refused(what)) => {
                 let error = ScriptError { line: i + 1, what };

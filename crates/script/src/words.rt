@@ -47,18 +47,19 @@ impl<'a> Words<'a> {
         self.words.is_empty()
     }
 
-    // The i-th word, or an empty one.
-    pub(crate) fn at(&self, i: usize) -> &'a [u8]
-        ensures { result.now ≡ word self.now i }
+    // Whether the first word is this text. Where there is none, an empty word stands for it: no rule takes one. Lines are told apart by this, word after
+    // word: with a match on the first word the proof of `Reader::block_line` does not close, and the others are alike.
+    pub(crate) fn begins_with(&self, text: &str) -> bool
+        ensures { result ≡ bytes_eq (word self.now 0) text.now }
     {
-        self.words.get(i).copied().unwrap_or(b"")
+        let first = self.words.first().copied().unwrap_or_default();
+        first == text.as_bytes()
     }
 
-    // Whether the i-th word is this text.
-    pub(crate) fn is(&self, i: usize, text: &str) -> bool
-        ensures { result ≡ bytes_eq (word self.now i) text.now }
+    pub(crate) fn as_slice(&self) -> &[&'a [u8]]
+        ensures { map seen result.now ≡ self.now }
     {
-        self.at(i) == text.as_bytes()
+        self.words.as_slice()
     }
 
     // The words but for the first.

@@ -17,6 +17,7 @@ impl BaseNumber {
     pub(crate) fn try_inverse(self) -> Option<BaseNumber>
         ensures { InverseIn base self result }
     {
+        // `as` makes a constant of it, where the proof would have to look through a call of `from`
         let mut a = P as u64;
         let mut b = u64::from(self.value);
         let mut s = BaseNumber::reduced(0);

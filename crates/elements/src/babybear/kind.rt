@@ -111,7 +111,7 @@ impl Field for BabyBear {
 
     fn from_coefficients(offered: &[u64]) -> Option<BabyBear> {
         match offered {
-            [a, b, c, d] if offered.iter().all(|n| *n < P as u64) => {
+            [a, b, c, d] if offered.iter().all(|n| *n < u64::from(P)) => {
                 Some(element(*a, *b, *c, *d))
             }
             _ => None,

@@ -70,10 +70,12 @@ impl Field for F257 {
         Residue::neg(self)
     }
 
+    // One look into the table, where Euclid's algorithm, which BabyBear needs, takes some ten turns.
     fn try_inverse(self) -> Option<F257> {
         if self.value == 0 {
             return None;
         }
+        // `as`, since an index is a `usize`, which no `u32` leaves
         let inverse = INVERSES[self.value as usize];
         Some(F257::reduced(u64::from(inverse)))
     }

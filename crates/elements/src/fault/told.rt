@@ -18,6 +18,7 @@ pub trait Fault {
     fn word(&self) -> &'static str
         ensures { result.now ≡ (fault self.now).word };
 
+    // By its place, and no slice of fields: a field is made when it is asked for, and nothing here allocates.
     fn field(&self, i: usize) -> Option<FaultField>
         ensures { option_map field_view result ≡ slice_get (fault self.now).fields i };
 }

@@ -1,4 +1,4 @@
-// Sums and products modulo P. The casts by `as` lose nothing, as the check proves; `try_from` would only add an `unwrap`.
+// Sums and products modulo P. The casts to `u32` lose nothing, as the check proves; `try_from` would only add an `unwrap`.
 ghost use Rattle.std.specs.Prelude.{◌≡◌, ◌-◌, ◌*◌, ◌%◌, ◌<◌, ◌≤◌};
 ghost use Rattle.elements.specs.Modulo.{residues_of};
 
@@ -12,7 +12,7 @@ impl<const P: u32> Residue<P> {
         ensures { result.value ≡ number % P }
     {
         Residue {
-            value: (number % P as u64) as u32,
+            value: (number % u64::from(P)) as u32,
         }
     }
 
@@ -20,9 +20,9 @@ impl<const P: u32> Residue<P> {
         ensures { result ≡ (residues_of self.entry).plus self.entry other.entry }
     {
         let sum = u64::from(self.value) + u64::from(other.value);
-        if sum >= P as u64 {
+        if sum >= u64::from(P) {
             return Residue {
-                value: (sum - P as u64) as u32,
+                value: (sum - u64::from(P)) as u32,
             };
         }
         Residue { value: sum as u32 }
