@@ -10,6 +10,16 @@ use Rattle.elements.specs.RingFacts.{zero_plus, one_times, times_zero, minus_zer
 use Rattle.elements.specs.Solver.{var, sum, solve}
 use Rattle.elements.specs.Solver.{product as productOf}
 
+-- an operation taken over a list from its first on is the operation taken over it from its last on
+module _ {R : Type 0} (op : R → R → R) (unit : R) (all : List R → R) (none : all [] ≡ unit) (more : (v : R) (vs : List R) → all (v ∷ vs) ≡ op v (all vs))
+    (assoc : (x y z : R) → op (op x y) z ≡ op x (op y z)) (right : (x : R) → op x unit ≡ x) (left : (x : R) → op unit x ≡ x) where
+  folded_on : (acc : R) (vs : List R) → fold op acc vs ≡ op acc (all vs)
+  folded_on acc [] = sym (ap (op acc) none ∙ right acc)
+  folded_on acc (v ∷ vs) = folded_on (op acc v) vs ∙ assoc acc v (all vs) ∙ ap (op acc) (sym (more v vs))
+
+  folded_up : (vs : List R) → fold op unit vs ≡ all vs
+  folded_up vs = folded_on unit vs ∙ left (all vs)
+
 module _ {R : Type 0} (k : Kind R) (l : CommutativeRing (operations k)) where
   pub total_append : (us vs : List R) → total k (us ++ vs) ≡ k.plus (total k us) (total k vs)
   total_append [] vs = sym (zero_plus (operations k) l (total k vs))
@@ -18,13 +28,8 @@ module _ {R : Type 0} (k : Kind R) (l : CommutativeRing (operations k)) where
   pub total_push : (vs : List R) (v : R) → total k (vs ++ (v ∷ [])) ≡ k.plus (total k vs) v
   total_push vs v = total_append vs (v ∷ []) ∙ ap (k.plus (total k vs)) (l.plus_zero v)
 
-  -- added up from the first on
-  fold_plus : (acc : R) (vs : List R) → fold k.plus acc vs ≡ k.plus acc (total k vs)
-  fold_plus acc [] = sym (l.plus_zero acc)
-  fold_plus acc (v ∷ vs) = fold_plus (k.plus acc v) vs ∙ l.plus_assoc acc v (total k vs)
-
   pub fold_total : (vs : List R) → fold k.plus k.zero vs ≡ total k vs
-  fold_total vs = fold_plus k.zero vs ∙ zero_plus (operations k) l (total k vs)
+  fold_total = folded_up k.plus k.zero (total k) refl (λ v vs. refl) l.plus_assoc l.plus_zero (zero_plus (operations k) l)
 
   -- a common factor
   pub total_scaled : {X : Type 0} (y : R) (f : X → R) (xs : List X) → total k (map (λ x. k.times y (f x)) xs) ≡ k.times y (total k (map f xs))
@@ -58,13 +63,8 @@ module _ {R : Type 0} (k : Kind R) (l : CommutativeRing (operations k)) where
   pub product_push : (vs : List R) (v : R) → product k (vs ++ (v ∷ [])) ≡ k.times (product k vs) v
   product_push vs v = product_append vs (v ∷ []) ∙ ap (k.times (product k vs)) (l.times_one v)
 
-  -- multiplied from the first on
-  fold_times : (acc : R) (vs : List R) → fold k.times acc vs ≡ k.times acc (product k vs)
-  fold_times acc [] = sym (l.times_one acc)
-  fold_times acc (v ∷ vs) = fold_times (k.times acc v) vs ∙ l.times_assoc acc v (product k vs)
-
   pub fold_product : (vs : List R) → fold k.times k.one vs ≡ product k vs
-  fold_product vs = fold_times k.one vs ∙ one_times (operations k) l (product k vs)
+  fold_product = folded_up k.times k.one (product k) refl (λ v vs. refl) l.times_assoc l.times_one (one_times (operations k) l)
 
   pub product_times : {X : Type 0} (f g : X → R) (xs : List X) → product k (map (λ x. k.times (f x) (g x)) xs) ≡ k.times (product k (map f xs)) (product k (map g xs))
   product_times f g [] = sym (l.times_one k.one)

@@ -27,7 +27,7 @@ residues p h = record {
   minus = λ x. residue p h (p - x.value);
 }
 
--- x is below p
+-- there are numbers below p, since x is one
 abbrev pub positive : (p : ℕ) → Residue p → Positive p
 positive zero x = absurd (not-suc-le-zero x.below)
 positive (suc n) x = tt

@@ -38,6 +38,7 @@ with_number c n = record { zk = c.zk; smallest = c.smallest; largest = c.largest
 abbrev pub matches : List ℕ → ℕ → ℕ → EntryV → Bool
 matches commitment matrix bits e = bytes_eq e.commitment commitment && (e.matrix == matrix && e.bits == bits)
 
+-- the entry is of this id
 abbrev pub of_id : MatrixId → EntryV → Bool
 of_id id = matches id.commitment.bytes id.matrix id.bits
 

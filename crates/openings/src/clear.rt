@@ -13,7 +13,7 @@ use std::marker::Model;
 // The bits of a `usize`. Not `usize::BITS` with `checked_shl`, which are of `u32`: each would be converted.
 const WORD_BITS: usize = 64;
 
-// Which matrix of a commitment, and on 2^bits points.
+// Which matrix of a commitment, and its degree bits.
 #[derive(Clone, Copy, Debug, PartialEq, Eq)]
 pub struct MatrixId {
     pub commitment: Commitment,

@@ -47,8 +47,8 @@ impl<'a> Words<'a> {
         self.words.is_empty()
     }
 
-    // Whether the first word is this text. Where there is none, an empty word stands for it: no rule takes one. Lines are told apart by this, word after
-    // word: with a match on the first word the proof of `Reader::block_line` does not close, and the others are alike.
+    // Whether the first word is this text. Where there is none, an empty word stands for it: no rule takes one. Lines are told apart by this, one
+    // text after another: with a match on the first word the proof of `Reader::block_line` does not close, and the others are alike.
     pub(crate) fn begins_with(&self, text: &str) -> bool
         ensures { result ≡ bytes_eq (word self.now 0) text.now }
     {

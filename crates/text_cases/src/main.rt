@@ -5,6 +5,7 @@ use elements::babybear::BabyBear;
 use elements::babybear::kind::x_times_x_cubed;
 use elements::commitment::Commitment;
 use elements::f257::F257;
+use elements::field::Field;
 use script::numbers::{read_number, write_number};
 use script::replies::{answer, error_text};
 use script::values::{read_commitment, read_element, write_commitment, write_element};
@@ -18,9 +19,14 @@ fn show_number(rt: &HostRuntime, number: u64) -> anyhow::Result<()> {
 }
 
 fn show_element(rt: &HostRuntime) -> anyhow::Result<()> {
+    let element = x_times_x_cubed();
     let mut text = String::new(rt.alloc());
-    write_element(rt.alloc(), &mut text, x_times_x_cubed())?;
-    let back = read_element::<BabyBear>(rt.alloc(), text.as_str().as_bytes())?.is_some();
+    write_element(rt.alloc(), &mut text, element)?;
+    let read = read_element::<BabyBear>(rt.alloc(), text.as_str().as_bytes())?;
+    let back = match read {
+        Some(Ok(read)) => read.coefficients() == element.coefficients(),
+        _ => false,
+    };
     println!(rt; "{text} {back}")?;
     Ok(())
 }
