@@ -3,7 +3,7 @@
 
 use elements::f257::F257;
 use script::replies::answer;
-use std::io::Read;
+use std::io::{LineWriter, Read, Write};
 use std::process::ExitCode;
 use std::{env, fs};
 
@@ -30,7 +30,10 @@ A script in short (docs/SCRIPT.md has the whole form):
 // Prints what a script answers; false where it cannot be read on. A bool, since `main` asks nothing but whether all were read.
 fn run(rt: &HostRuntime, text: &[u8]) -> anyhow::Result<bool> {
     let answers = answer::<F257>(rt.alloc(), text)?;
-    rt.print(&answers)?;
+    // A write for each line, where `rt.print` cuts lines: so runs that share a pipe or a log do not mix within a line.
+    let mut out = LineWriter::new(rt.alloc(), rt.stdout())?;
+    write!(out, "{answers}")?;
+    out.flush()?;
     Ok(answers.error.is_none())
 }
 

@@ -9,7 +9,7 @@ use elements::field::Field;
 use elements::laws::consequences;
 use elements::lists::exp_u64;
 use script::numbers::read_number;
-use script::values::{Written, read_element};
+use script::values::{Written, read_element, written_reads_back};
 use std::alloc::Global;
 use std::{env, fs};
 
@@ -83,6 +83,9 @@ fn show_all(rt: &HostRuntime) -> anyhow::Result<()> {
     // what follows from the laws holds of both kinds
     consequences::<F257>();
     consequences::<BabyBear>();
+    // and so does, that what is printed here reads back
+    written_reads_back::<F257>();
+    written_reads_back::<BabyBear>();
     println!(rt; "x*x^3 = {}", Written(x_times_x_cubed()))?;
     for name in env::args(rt)?.skip(1) {
         show_file(rt, name.as_str())?;

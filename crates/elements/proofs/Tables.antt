@@ -24,8 +24,11 @@ module _ {R : Type 0} (k : Kind R) where
   abbrev is_root : List ℕ → ℕ → Bool
   is_root table n = eqb (get_or table n 0) (k.root n)
 
+  pub root_value : (table : List ℕ) (n : ℕ) → n < suc k.limit → T (all_below (is_root table) (suc k.limit)) → get_or table n 0 ≡ k.root n
+  root_value table n h passes = eqb→eq (get_or table n 0) (k.root n) (below_at (is_root table) (suc k.limit) n passes h)
+
   pub root_entry : (table : List ℕ) (n x : ℕ) → n < suc k.limit → x ≡ get_or table n 0 → T (all_below (is_root table) (suc k.limit))
       → Some (k.embed x) ≡ root_at k n
   root_entry table n x h is passes =
-      ap (λ m. Some (k.embed m)) (is ∙ eqb→eq (get_or table n 0) (k.root n) (below_at (is_root table) (suc k.limit) n passes h))
+      ap (λ m. Some (k.embed m)) (is ∙ root_value table n h passes)
       ∙ sym (cond-true _ (Some (root_of k n)) _ (le-leb n k.limit (omega arith)))

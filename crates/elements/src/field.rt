@@ -11,7 +11,7 @@ pub trait Field: Copy {
     ghost kind: { Kind Self };
 
     // D base numbers, lowest first.
-    type Coefficients: Copy + AsSlice<u32>;
+    type Coefficients: Copy + Send + Sync + AsSlice<u32> + 'static;
 
     // p: a base number is a whole number below it.
     fn modulus() -> u32

@@ -24,13 +24,22 @@ pub fn exp_u64<E: Field>(x: E, n: u64) -> E
     power
 }
 
-// acc·alpha + c over the values as they come, from 0.
+// acc·alpha + c over the values as they come, from a first acc.
+fn fold_from<E: Field, I: Iterator<Item = E>>(first: E, alpha: E, values: I) -> E
+    requires can { I.can_next values }
+    requires ends { IsFinite (I.remaining values) }
+    ensures { WholeRun I.next_gives values (λ run. result ≡ fold E.kind alpha first run.items) }
+{
+    values.fold(first, |acc, c| acc.mul(alpha).add(c))
+}
+
+// The same from 0.
 fn fold_in<E: Field, I: Iterator<Item = E>>(alpha: E, values: I) -> E
     requires can { I.can_next values }
     requires ends { IsFinite (I.remaining values) }
     ensures { WholeRun I.next_gives values (λ run. result ≡ fold E.kind alpha E.kind.zero run.items) }
 {
-    values.fold(E::zero(), |acc, c| acc.mul(alpha).add(c))
+    fold_from(E::zero(), alpha, values)
 }
 
 // acc·alpha + c over the values, first to last, from 0.
@@ -51,7 +60,12 @@ pub fn horner<E: Field>(coefficients: &[E], point: E) -> E
 pub fn horner_u32<E: Field>(coefficients: &[u32], point: E) -> E
     ensures { result ≡ evaluated E.kind point (map E.kind.embed coefficients.now) }
 {
-    fold_in(point, coefficients.iter().rev().map(|c| E::from_u32(*c)))
+    // From the highest on, and not from 0: a column of one number then takes no product.
+    let Some((highest, rest)) = coefficients.split_last() else {
+        return E::zero();
+    };
+    let first = E::from_u32(*highest);
+    fold_from(first, point, rest.iter().rev().map(|c| E::from_u32(*c)))
 }
 
 // Values of the coordinates put together: the sum of x^i·v_i.

@@ -163,7 +163,11 @@ impl<'a> Columns<'a> {
         ensures { IfOk result (λ v. v.items ≡ columns_at E.Field.kind self.now.numbers.now (entry_view self.now.entry) point) }
     {
         (0..self.entry.columns)
-            .map(|column| self.value(column, point))
+            .map(
+                |column|
+                    requires { column < self.now.entry.columns }
+                { self.value(column, point) },
+            )
             .collect(heap)
     }
 }

@@ -1,6 +1,6 @@
 -- Hexadecimal digits, two by two. Assumes nothing.
 use Rattle.std.proofs.Common.{◌≡◌, ℕ, ◌+◌, ◌*◌, ◌/◌, ◌%◌, ◌<◌, ◌≤◌, true, cond, ltb, leb, List, [], ◌∷◌, ◌++◌}
-use Rattle.std.proofs.Common.{length, get_or, drop, replicate, Some, None, Ok, Err, Option, Result, sym, refl, ap, ◌∙◌, append-nil, inl, inr, arith, lt-ltb, le-leb, eqb, eqb→eq}
+use Rattle.std.proofs.Common.{length, get_or, drop, replicate, Some, None, Ok, Err, Option, Result, sym, refl, ap, ◌∙◌, append-nil, inl, inr, arith, lt-ltb, ltb→lt, le-leb, eqb, eqb→eq}
 use Rattle.std.specs.Prelude.{MatchResult, slice_index}
 use Rattle.std.specs.Option.{option_map}
 use Rattle.std.specs.Result.{result_ok}
@@ -10,7 +10,10 @@ use Rattle.std.proofs.lemmas.Bool.{cases_eq}
 use Rattle.std.proofs.lemmas.Grind.{common_steps}
 use Rattle.std.proofs.lemmas.List.{drop-replicate}
 use Rattle.std.proofs.lemmas.List.Elements.{All-head, All-tail, All-from_get_or}
-use Rattle.std.proofs.lemmas.Str.{digit_value-digit_char}
+use Rattle.std.proofs.lemmas.Str.{digit_value-digit_char, IsUtf8-from_ascii}
+use Rattle.std.proofs.lemmas.Str.Ascii.{IsAscii-from_all}
+use Rattle.std.specs.Str.{IsUtf8}
+use Rattle.hex.proofs.HexLemmas.{IsAscii-encode_with}
 use Rattle.hex.specs.Hex.{lower_digits, encode_with, encode_lower, decode_pairs, decode_sized, hex_digit_value, pair_value, ◌>>=◌}
 use Rattle.hex.specs.declared.error.FromHexError.{FromHexError}
 use Rattle.hex.specs.declared.error.FromHexError.TheVariants.{OddLength}
@@ -108,3 +111,9 @@ bytes_back bs small full =
     let back = pairs_back bs (all_bytes bs small) in
     let short : leb (length (hex_of bs)) 64 ≡ true = le-leb (length (hex_of bs)) 64 (omega (arith, length_hex bs)) in
     simp (short, back, full, append-nil)
+
+-- the digits that the library writes are text
+pub digits_text : (bs : List ℕ) → IsUtf8 (encode_lower bs)
+digits_text bs =
+    let below = All-from_get_or (λ b. b < 128) lower_digits 0 (λ i within. ltb→lt _ _ (below_at (λ n. ltb (get_or lower_digits n 0) 128) 16 i tt within)) in
+    IsUtf8-from_ascii (encode_lower bs) (IsAscii-encode_with lower_digits bs (IsAscii-from_all lower_digits below))

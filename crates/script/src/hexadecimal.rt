@@ -1,9 +1,8 @@
 // Commitments as hexadecimal digits.
-ghost use Rattle.std.specs.Prelude.{◌≡◌, length, Some, string_bytes, OnOk, OnErr};
+ghost use Rattle.std.specs.Prelude.{◌≡◌, Some, string_bytes, OnOk, OnErr};
 ghost use Rattle.script.specs.Hexadecimal.{commitment_of, hex_of};
 ghost use Rattle.script.specs.Values.{Wrote};
 
-use crate::adding::add;
 use std::alloc::AllocError;
 
 // The bytes of a commitment: 64 hexadecimal digits, or a shorter even number of them and zeros behind.
@@ -18,13 +17,15 @@ pub(crate) fn hex_bytes(word: &[u8]) -> Option<[u8; 32]>
     Some(bytes)
 }
 
-// Adds the digits of bytes to a text, in one piece; without memory for them nothing is added.
-pub(crate) fn write_hex(out: &mut String, bytes: &[u8]) -> Result<(), AllocError>
+// Adds the digits of a commitment's bytes to a text, in one piece: where the text has room, nothing is allocated, and without memory to grow
+// nothing is added.
+pub(crate) fn write_hex(out: &mut String, bytes: &[u8; 32]) -> Result<(), AllocError>
     ensures wrote { OnOk result (Wrote (string_bytes out.old) (string_bytes out.new) (hex_of bytes.now)
-        (length bytes.now ≡ 32 → commitment_of (hex_of bytes.now) ≡ Some bytes.now)) }
+        (commitment_of (hex_of bytes.now) ≡ Some bytes.now)) }
     ensures kept { OnErr result (string_bytes out.new ≡ string_bytes out.old) }
 {
-    let heap = *out.allocator();
-    let digits = hex::encode(heap, bytes)?;
-    add(heap, out, &digits)
+    let mut digits = [0u8; 64];
+    hex::encode_to_slice(&bytes[..], &mut digits).unwrap();
+    let text = str::from_utf8(&digits).unwrap();
+    out.push_str(text)
 }

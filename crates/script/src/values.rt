@@ -1,5 +1,5 @@
 // Elements and commitments as words.
-ghost use Rattle.std.specs.Prelude.{◌≡◌, map, IfOk, Some, vec_items, string_bytes, OnOk, OnErr};
+ghost use Rattle.std.specs.Prelude.{◌≡◌, ℕ, List, map, IfOk, Some, vec_items, string_bytes, OnOk, OnErr};
 ghost use Rattle.std.specs.Option.{option_map};
 ghost use Rattle.std.specs.Result.{result_ok};
 ghost use Rattle.script.specs.Hexadecimal.{commitment_of, hex_of};
@@ -108,6 +108,11 @@ impl<E: Field> fmt::Display for Written<E> {
         write!(f, "{}", Commaed(coefficients.as_slice()))
     }
 }
+
+// A theorem with no work to do: what is printed of an element reads back as that element.
+pub fn written_reads_back<E: Field>()
+    ensures { (e : E) (text : List ℕ) → ⟦<Written<E> as fmt::Display>⟧.output (record { 0 = e }) ≡ Some text → element_of E.Field.kind text ≡ Some (Some e) }
+{}
 
 // Adds an element to a text, in one piece; without memory for it nothing is added.
 pub fn write_element<E: Field>(heap: Global, out: &mut String, element: E) -> Result<(), AllocError>

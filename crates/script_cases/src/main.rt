@@ -3,12 +3,17 @@
 
 use elements::f257::F257;
 use script::replies::answer;
+use std::io::{LineWriter, Write};
 use std::{env, fs};
 
 fn show(rt: &HostRuntime, name: &str) -> anyhow::Result<()> {
     let text = fs::read(rt, name)?;
     println!(rt; "== {name}")?;
-    rt.print(answer::<F257>(rt.alloc(), text.as_slice())?)?;
+    let answers = answer::<F257>(rt.alloc(), text.as_slice())?;
+    // a write for each line, as `batch_verify` prints
+    let mut out = LineWriter::new(rt.alloc(), rt.stdout())?;
+    write!(out, "{answers}")?;
+    out.flush()?;
     Ok(())
 }
 

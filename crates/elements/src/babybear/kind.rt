@@ -57,7 +57,7 @@ impl Field for BabyBear {
         element(1, 0, 0, 0)
     }
 
-    // Coordinate by coordinate, as `neg`: a helper that takes a closure proves too, but is longer than what it would save.
+    // Coordinate by coordinate, as `sub` and `neg`: a helper that takes a closure proves too, but is longer than what it would save.
     fn add(self, other: BabyBear) -> BabyBear {
         BabyBear {
             c0: self.c0.add(other.c0),
@@ -68,7 +68,12 @@ impl Field for BabyBear {
     }
 
     fn sub(self, other: BabyBear) -> BabyBear {
-        self.add(other.neg())
+        BabyBear {
+            c0: self.c0.sub(other.c0),
+            c1: self.c1.sub(other.c1),
+            c2: self.c2.sub(other.c2),
+            c3: self.c3.sub(other.c3),
+        }
     }
 
     fn mul(self, other: BabyBear) -> BabyBear {

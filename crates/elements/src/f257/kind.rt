@@ -77,7 +77,7 @@ impl Field for F257 {
         }
         // `as`, since an index is a `usize`, which no `u32` leaves
         let inverse = INVERSES[self.value as usize];
-        Some(F257::reduced(u64::from(inverse)))
+        Some(F257::below(u32::from(inverse)))
     }
 
     fn from_u32(number: u32) -> F257 {

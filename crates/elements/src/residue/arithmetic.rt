@@ -16,6 +16,14 @@ impl<const P: u32> Residue<P> {
         }
     }
 
+    // A number that is below P already, and needs no remainder.
+    pub(crate) fn below(number: u32) -> Residue<P>
+        requires { number < P }
+        ensures { result.value ≡ number }
+    {
+        Residue { value: number }
+    }
+
     pub(crate) fn add(self, other: Residue<P>) -> Residue<P>
         ensures { result ≡ (residues_of self.entry).plus self.entry other.entry }
     {
@@ -32,7 +40,14 @@ impl<const P: u32> Residue<P> {
         ensures { result
             ≡ (residues_of self.entry).plus self.entry ((residues_of other.entry).minus other.entry) }
     {
-        self.add(other.neg())
+        if self.value < other.value {
+            return Residue {
+                value: self.value + (P - other.value),
+            };
+        }
+        Residue {
+            value: self.value - other.value,
+        }
     }
 
     pub(crate) fn neg(self) -> Residue<P>

@@ -1,13 +1,12 @@
-use Rattle.std.proofs.Common.{◌≡◌, ◌*◌, ◌%◌, ◌<◌, ap, ◌∙◌, zero-mul, arith}
+use Rattle.std.proofs.Common.{◌≡◌, ℕ, ◌*◌, ◌%◌, ◌<◌, ap, sym, ◌∙◌, subst, lit<, zero-mul, arith}
 use Rattle.elements.specs.Inverse.{same_inverse}
 use Rattle.elements.specs.Laws257.{ring, f257_laws}
 use Rattle.elements.specs.Mod257.{f257}
-use Rattle.elements.specs.ModLemmas.{mul_mod_mod}
 use Rattle.elements.specs.Modulo.{residues}
 use Rattle.elements.specs.ResidueRing.{same}
 use Rattle.elements.specs.declared.f257.kind.TheConstants.{INVERSES}
 use Rattle.elements.specs.declared.residue.Residue.{Residue}
-use Rattle.elements.proofs.Tables.{inverse_entry}
+use Rattle.elements.proofs.Tables.{inverse_below, inverse_entry}
 use Rattle.elements.proofs.f257.kind.F257Field.try_inverse.Goals as goal
 
 -- no product with 0 is 1
@@ -24,12 +23,18 @@ returns-then-self-eq0 c =
     let x = c.args.self in
     same_inverse f257 ring x _ _ (λ y e. no_inverse x y c.if-self-eq0.true e) (f257_laws.inverses x)
 
+pub below-requires : goal.below-requires
+below-requires c =
+    let x = c.args.self in
+    let listed = inverse_below INVERSES x.value x.below tt in
+    (lit< tt, subst (λ (n : ℕ). n < 257) (sym c.from.ensures) listed)
+
 pub returns : goal.returns
 unfolding residues
 returns c =
     let x = c.args.self in
     let n = c.from.result in
     let pos : 0 < x.value = omega arith in
-    let product : x.value * c.reduced.result.value % 257 ≡ 1
-    = ap (λ m. x.value * m % 257) c.reduced.ensures ∙ mul_mod_mod x.value n 257 ∙ inverse_entry INVERSES x.value n pos x.below c.from.ensures tt in
+    let product : x.value * c.below.result.value % 257 ≡ 1
+    = ap (λ m. x.value * m % 257) c.below.ensures ∙ inverse_entry INVERSES x.value n pos x.below c.from.ensures tt in
     same_inverse f257 ring x _ _ (same _ _ product) (f257_laws.inverses x)
