@@ -83,7 +83,7 @@ fn show_all(rt: &HostRuntime) -> anyhow::Result<()> {
     // what follows from the laws holds of both kinds
     consequences::<F257>();
     consequences::<BabyBear>();
-    // and so does, that what is printed here reads back
+    // and what is printed of an element reads back as that element
     written_reads_back::<F257>();
     written_reads_back::<BabyBear>();
     println!(rt; "x*x^3 = {}", Written(x_times_x_cubed()))?;

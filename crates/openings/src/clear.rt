@@ -162,6 +162,7 @@ impl<'a> Columns<'a> {
     fn values<E: Field>(&self, heap: Global, point: E) -> Result<Vec<E>, AllocError>
         ensures { IfOk result (λ v. v.items ≡ columns_at E.Field.kind self.now.numbers.now (entry_view self.now.entry) point) }
     {
+        // The closure states what `value` asks: with the bounds of a kind's `Coefficients` that is no longer read off its body.
         (0..self.entry.columns)
             .map(
                 |column|

@@ -1,5 +1,5 @@
 // Commitments as hexadecimal digits.
-ghost use Rattle.std.specs.Prelude.{◌≡◌, Some, string_bytes, OnOk, OnErr};
+ghost use Rattle.std.specs.Prelude.{◌≡◌, ◌+◌, ◌≤◌, Some, string_bytes, string_len, string_capacity, IsOk, OnOk, OnErr};
 ghost use Rattle.script.specs.Hexadecimal.{commitment_of, hex_of};
 ghost use Rattle.script.specs.Values.{Wrote};
 
@@ -17,13 +17,14 @@ pub(crate) fn hex_bytes(word: &[u8]) -> Option<[u8; 32]>
     Some(bytes)
 }
 
-// Adds the digits of a commitment's bytes to a text, in one piece: where the text has room, nothing is allocated, and without memory to grow
-// nothing is added.
+// Adds the digits of a commitment's bytes to a text, in one piece: where the text has room it succeeds, and without memory to grow nothing is added.
 pub(crate) fn write_hex(out: &mut String, bytes: &[u8; 32]) -> Result<(), AllocError>
     ensures wrote { OnOk result (Wrote (string_bytes out.old) (string_bytes out.new) (hex_of bytes.now)
         (commitment_of (hex_of bytes.now) ≡ Some bytes.now)) }
     ensures kept { OnErr result (string_bytes out.new ≡ string_bytes out.old) }
+    ensures room { string_len out.old + 64 ≤ string_capacity out.old → IsOk result }
 {
+    // An array, so that nothing is allocated but what the text grows by. The digits fit, and are text: neither is ever refused.
     let mut digits = [0u8; 64];
     hex::encode_to_slice(&bytes[..], &mut digits).unwrap();
     let text = str::from_utf8(&digits).unwrap();

@@ -1,5 +1,5 @@
 // Elements and commitments as words.
-ghost use Rattle.std.specs.Prelude.{◌≡◌, ℕ, List, map, IfOk, Some, vec_items, string_bytes, OnOk, OnErr};
+ghost use Rattle.std.specs.Prelude.{◌≡◌, ◌+◌, ◌≤◌, ℕ, List, map, IfOk, IsOk, Some, vec_items, string_bytes, string_len, string_capacity, OnOk, OnErr};
 ghost use Rattle.std.specs.Option.{option_map};
 ghost use Rattle.std.specs.Result.{result_ok};
 ghost use Rattle.script.specs.Hexadecimal.{commitment_of, hex_of};
@@ -25,11 +25,12 @@ pub fn read_commitment(word: &[u8]) -> Option<Commitment>
     Some(Commitment { bytes })
 }
 
-// Adds a commitment to a text, in one piece; without memory for it nothing is added.
+// Adds a commitment to a text, in one piece: where the text has room for it that succeeds, and without memory nothing is added.
 pub fn write_commitment(out: &mut String, commitment: &Commitment) -> Result<(), AllocError>
     ensures wrote { OnOk result (Wrote (string_bytes out.old) (string_bytes out.new) (hex_of commitment.now.bytes)
         (commitment_of (hex_of commitment.now.bytes) ≡ Some commitment.now.bytes)) }
     ensures kept { OnErr result (string_bytes out.new ≡ string_bytes out.old) }
+    ensures room { string_len out.old + 64 ≤ string_capacity out.old → IsOk result }
 {
     write_hex(out, &commitment.bytes)
 }
